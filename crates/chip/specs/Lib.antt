@@ -1,0 +1,3 @@
+pub mod Refusals
+pub mod Flows
+pub mod Routes

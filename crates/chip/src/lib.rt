@@ -1,0 +1,11 @@
+// The mesh chip: causes of refusal, routers, flows, and the routes that their packets take.
+pub mod flow;
+pub mod parameters;
+pub mod port;
+pub mod refusal;
+
+pub use flow::Flow;
+pub use parameters::FlowParameters;
+pub use parameters::Router;
+pub use port::Port;
+pub use refusal::Refusal;
