@@ -1,2 +1,5 @@
+pub mod Exact
 pub mod Heads
+pub mod Phases
+pub mod Steps
 pub mod Taking

@@ -1,4 +1,5 @@
 pub mod Cursor
 pub mod Layout
 pub mod Faults
+pub mod Progress
 pub mod Reading

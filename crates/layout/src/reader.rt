@@ -7,6 +7,7 @@ ghost use Rattle.std.specs.Results.{Cases};
 ghost use Rattle.chip.specs.Refusals.{number-of};
 ghost use Rattle.layout.specs.Cursor.{Took, Headed, Peeked};
 ghost use Rattle.layout.specs.Faults.{open-fault};
+ghost use Rattle.layout.specs.Progress.{placed};
 ghost use Rattle.layout.specs.Layout.{be16, be32, flow-value, pair-value};
 use crate::entry::Entry;
 use crate::entry::FLOW;
@@ -118,6 +119,16 @@ impl<'a> Reader<'a> {
         Fault {
             refusal,
             byte: self.field,
+        }
+    }
+
+    // The same result, with the byte of the field that is being read beside a refusal.
+    pub fn at_field<T>(&self, result: Result<T, Refusal>) -> Result<T, Fault>
+        ensures { λ r. ⌜ r ≡ placed (now (self .entry) .field) result ⌝ }
+    {
+        match result {
+            Ok(x) => Ok(x),
+            Err(refusal) => Err(self.fault(refusal)),
         }
     }
 
