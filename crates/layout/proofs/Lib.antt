@@ -1,5 +1,9 @@
+pub mod Codes
 pub mod Exact
 pub mod Heads
+pub mod Layouts
 pub mod Phases
+pub mod Single
 pub mod Steps
 pub mod Taking
+pub mod Written
