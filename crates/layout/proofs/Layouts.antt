@@ -31,10 +31,11 @@ use Rattle.layout.specs.declared.entry.Entry.the-variants as entry
 use Rattle.layout.specs.declared.entry.Stage.{Stage}
 use Rattle.layout.specs.declared.entry.Stage.the-variants.{Rule, FirstFlow, Flows, Pairs, Done}
 use Rattle.layout.specs.Faults.{Part, blank, with-entry, allows, length-for, open-fault, head-fault, value-fault, or-else}
-use Rattle.layout.specs.Layout.{tag-of, value-of, entry-bytes, reserve-bytes, layout}
+use Rattle.layout.specs.Layout.{tag-of, value-of, entry-bytes, flow-bytes, pair-bytes, reserve-bytes, layout}
 use Rattle.layout.specs.Progress.{ruled, part-of, flows-alone}
 use Rattle.layout.specs.Reading.{State, Sound, Reads, here, next, start}
 use Rattle.layout.proofs.Heads.{fine}
+use Rattle.layout.proofs.Laying.{few-flows, few-pairs}
 use Rattle.layout.proofs.Steps.{open-head, then-reads}
 
 -- each value has the length that goes with its tag
@@ -89,9 +90,6 @@ may-add done p ps d h =
     let few : leb 20 (length done) ≡ false = lt-leb 20 (length done) (omega (arith, length-append done (p ∷ ps))) in
     rw (fresh-label done p ps d, few)
 
-abbrev flow-bytes : FlowParameters → List ℕ
-flow-bytes p = entry-bytes (entry.Flow p)
-
 -- flows after those that are read
 more-flows : (l : Letter) (fs : List Flow) (done : List FlowParameters) (at : ℕ) (rest : List ℕ) → distinct-labels (done ++ map said fs) ≡ true → length (done ++ map said fs) ≤ 20 →
     Leads (part-of Flows (flows-alone l done)) at (joined flow-bytes (map said fs) ++ rest) (part-of Flows (flows-alone l (done ++ map said fs))) rest
@@ -113,9 +111,6 @@ all-flows l (f ∷ fs) at rest some d h =
     subst (λ (bs : List ℕ). Leads (ruled l) at bs (part-of Flows (flows-alone l (said f ∷ map said fs))) rest) (sym (append-assoc (flow-bytes (said f)) (joined flow-bytes (map said fs)) rest))
     (and-then (one (ruled l) at (entry.Flow (said f)) (joined flow-bytes (map said fs) ++ rest) refl (rw (exists f) (may-add [] (said f) (map said fs) d h)))
     (λ n. more-flows l fs (said f ∷ []) n rest d h))
-
-abbrev pair-bytes : Pair → List ℕ
-pair-bytes q = entry-bytes (entry.Pair q)
 
 abbrev with-pairs : Contents → List Pair → Contents
 with-pairs c qs = record { letter = c .letter; flows = c .flows; reserve = c .reserve; pairs = qs }
@@ -176,5 +171,5 @@ layout-read j =
     let wishes = reserve-bytes r ++ (joined pair-bytes qs ++ entry-bytes entry.End) in
     subst (λ (bs : List ℕ). Leads blank 0 bs (part-of Done (contents j)) []) (sym (regroup (entry-bytes (entry.Rule (letter-code l))) (joined flow-bytes (map said fs)) (reserve-bytes r) (joined pair-bytes qs) (entry-bytes entry.End)))
     (and-then (begins l (joined flow-bytes (map said fs) ++ wishes))
-    (λ n. and-then (all-flows l fs n wishes (omega (arith, long, list .some)) (list .distinct) (omega (arith, length-map fs said, long, list .few)))
-    (λ m. all-wishes l (map said fs) r qs m (few-ticks (j .reserve)) (j .known) (omega (arith, length-take-le (j .pairs .count) (j .pairs .pairs) (omega arith), j .pairs .few)))))
+    (λ n. and-then (all-flows l fs n wishes (omega (arith, long, list .some)) (list .distinct) (few-flows j))
+    (λ m. all-wishes l (map said fs) r qs m (few-ticks (j .reserve)) (j .known) (few-pairs j))))

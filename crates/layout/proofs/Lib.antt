@@ -1,6 +1,7 @@
 pub mod Codes
 pub mod Exact
 pub mod Heads
+pub mod Laying
 pub mod Layouts
 pub mod Phases
 pub mod Single

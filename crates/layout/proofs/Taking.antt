@@ -1,11 +1,11 @@
--- Bytes taken one after another, and the numbers that they make. Assumes nothing.
+-- Bytes taken or put one after another, and the numbers that they make. Assumes nothing.
 use mathlib.Core.Path.{_≡_, refl, sym, ap, subst, _∙_}
 use mathlib.Core.List.{List, [], _∷_, _++_}
 use Prim.Native.Nat.{ℕ, _+_, _*_, _/_, _%_, _≤_, _<_}
 use native.Mathlib.Omega.{arith}
 use lib.ListN.{length, drop, getD}
 use Rattle.std.proofs.shelf.Lists.{drop-more, append-assoc, length-append}
-use Rattle.layout.specs.Cursor.{Took}
+use Rattle.layout.specs.Cursor.{Took, Put}
 use Rattle.layout.specs.Layout.{be16, be32}
 
 -- one byte
@@ -36,3 +36,17 @@ be32-halves high low h =
     let c : (high * 65536 + low) / 256 % 256 ≡ low / 256 = omega arith in
     let d : (high * 65536 + low) % 256 ≡ low % 256 = omega arith in
     rw (a, b, c, d)
+
+-- some bytes put last and then some more
+pub put-both : {a b c : List ℕ} {n m k : ℕ} (xs ys : List ℕ) → Put a n b m xs → Put b m c k ys → Put a n c k (xs ++ ys)
+put-both {a} xs ys first second = record {
+    laid = second .laid ∙ ap (λ (zs : List ℕ). zs ++ ys) (first .laid) ∙ append-assoc a xs ys;
+    count = omega (arith, first .count, second .count, length-append xs ys);
+  }
+
+pub halves-be32 : (n : ℕ) → be16 (n / 65536) ++ be16 (n % 65536) ≡ be32 n
+halves-be32 n =
+    let a : n / 65536 / 256 ≡ n / 16777216 = omega arith in
+    let b : n % 65536 / 256 ≡ n / 256 % 256 = omega arith in
+    let c : n % 65536 % 256 ≡ n % 256 = omega arith in
+    rw (a, b, c)

@@ -1,5 +1,6 @@
--- What the reader's cursor has passed over. Assumes nothing.
+-- What the reader's cursor has passed over, and what a page was given. Assumes nothing.
 --   Took       these bytes came next, and the cursor moved past them
+--   Put        these bytes were laid out last
 --   Peeked     this field came next, its head is sound, and the cursor moved past it
 use mathlib.Core.Path.{_≡_}
 use mathlib.Core.List.{List, _∷_, _++_}
@@ -25,3 +26,8 @@ pub record Headed (stage : Stage) (bytes : List ℕ) (at after tag : ℕ) : Type
 pub record Peeked (stage : Stage) (bytes : List ℕ) (at after : ℕ) (e : Entry) : Type 0 where
   pub sound : open-fault stage (drop at bytes) ≡ 0
   pub field : Took bytes at after (entry-bytes e)
+
+-- these bytes were put behind those that were laid out, n of them before and m after
+pub record Put (before : List ℕ) (n : ℕ) (after : List ℕ) (m : ℕ) (bytes : List ℕ) : Type 0 where
+  pub laid : after ≡ before ++ bytes
+  pub count : m ≡ n + length bytes

@@ -54,6 +54,14 @@ value-of entry.End = []
 abbrev pub entry-bytes : Entry → List ℕ
 entry-bytes e = tag-of e ∷ be16 (length (value-of e)) ++ value-of e
 
+-- a flow field
+abbrev pub flow-bytes : FlowParameters → List ℕ
+flow-bytes p = entry-bytes (entry.Flow p)
+
+-- a pair field
+abbrev pub pair-bytes : Pair → List ℕ
+pair-bytes q = entry-bytes (entry.Pair q)
+
 -- the reserve field, where there is a reserve
 abbrev pub reserve-bytes : Option ℕ → List ℕ
 reserve-bytes None = []
@@ -63,7 +71,7 @@ reserve-bytes (Some ticks) = entry-bytes (entry.Reserve ticks)
 abbrev pub layout : Contents → List ℕ
 layout c =
     entry-bytes (entry.Rule (letter-code (c .letter)))
-    ++ joined (λ p. entry-bytes (entry.Flow p)) (c .flows)
+    ++ joined flow-bytes (c .flows)
     ++ reserve-bytes (c .reserve)
-    ++ joined (λ q. entry-bytes (entry.Pair q)) (c .pairs)
+    ++ joined pair-bytes (c .pairs)
     ++ entry-bytes entry.End

@@ -3,3 +3,4 @@ pub mod Layout
 pub mod Faults
 pub mod Progress
 pub mod Reading
+pub mod Writing
