@@ -26,9 +26,9 @@ next-taken (y ∷ xs) (suc i) x e = ap (λ zs. y ∷ zs) (next-taken xs i x e)
 pub laid-more : {X : Type 0} (f : X → List ℕ) (k : ℕ) (xs : List X) (i : ℕ) (x : X) (start so-far after : List ℕ) (s n m : ℕ) → nth xs i ≡ Some x → length (f x) ≡ k →
     (so-far ≡ start ++ joined f (take i xs)) × (n ≡ s + k * i) → Put so-far n after m (f x) → (after ≡ start ++ joined f (take (i + 1) xs)) × (m ≡ s + k * (i + 1))
 laid-more f k xs i x start so-far after s n m e long inv put = (
-    put .laid ∙ ap (λ bs. bs ++ f x) (inv .0) ∙ joined-more f start (take i xs) x ∙ ap (λ ys. start ++ joined f ys) (sym (next-taken xs i x e) ∙ ap (λ j. take j xs) (sym (add-one i))),
-    omega (arith, put .count, inv .1, long)
-  )
+  put .laid ∙ ap (λ bs. bs ++ f x) (inv .0) ∙ joined-more f start (take i xs) x ∙ ap (λ ys. start ++ joined f ys) (sym (next-taken xs i x e) ∙ ap (λ j. take j xs) (sym (add-one i))),
+  omega (arith, put .count, inv .1, long),
+)
 
 -- each place below the length has its entry
 pub entry-at : {X : Type 0} (xs : List X) (i : ℕ) → i < length xs → (x : X) × (nth xs i ≡ Some x)
@@ -40,9 +40,9 @@ entry-at (y ∷ xs) (suc i) h = entry-at xs i (omega arith)
 pub laid-all : {X : Type 0} (f : X → List ℕ) (k : ℕ) (xs : List X) (i : ℕ) (start so-far : List ℕ) (s n : ℕ) → i ≡ length xs →
     (so-far ≡ start ++ joined f (take i xs)) × (n ≡ s + k * i) → (so-far ≡ start ++ joined f xs) × (n ≡ s + k * length xs)
 laid-all f k xs i start so-far s n e inv = (
-    inv .0 ∙ ap (λ ys. start ++ joined f ys) (take-all i xs (omega arith)),
-    inv .1 ∙ ap (λ j. s + k * j) e
-  )
+  inv .0 ∙ ap (λ ys. start ++ joined f ys) (take-all i xs (omega arith)),
+  inv .1 ∙ ap (λ j. s + k * j) e,
+)
 
 -- one more byte copied
 pub copied-more : (bytes old buffer : List ℕ) (i : ℕ) → i < length bytes → i < length old → buffer ≡ take i bytes ++ drop i old → set buffer i (getD bytes i 0) ≡ take (i + 1) bytes ++ drop (i + 1) old

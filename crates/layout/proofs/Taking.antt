@@ -40,9 +40,9 @@ be32-halves high low h =
 -- some bytes put last and then some more
 pub put-both : {a b c : List ℕ} {n m k : ℕ} (xs ys : List ℕ) → Put a n b m xs → Put b m c k ys → Put a n c k (xs ++ ys)
 put-both {a} xs ys first second = record {
-    laid = second .laid ∙ ap (λ (zs : List ℕ). zs ++ ys) (first .laid) ∙ append-assoc a xs ys;
-    count = omega (arith, first .count, second .count, length-append xs ys);
-  }
+  laid = second .laid ∙ ap (λ (zs : List ℕ). zs ++ ys) (first .laid) ∙ append-assoc a xs ys;
+  count = omega (arith, first .count, second .count, length-append xs ys);
+}
 
 pub halves-be32 : (n : ℕ) → be16 (n / 65536) ++ be16 (n % 65536) ≡ be32 n
 halves-be32 n =

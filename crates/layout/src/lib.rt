@@ -1,10 +1,12 @@
-// The byte layout of a flow sheet: reading bytes into a job, and writing a job into bytes.
+// The byte layout of a flow sheet: `read` makes a job of bytes, `write` lays a job out into bytes.
 pub mod entry;
 pub mod fault;
 pub mod page;
-pub mod read;
 pub mod reader;
-pub mod write;
+pub mod reading;
+pub mod writing;
 
-pub use entry::Entry;
-pub use entry::Stage;
+pub use fault::Fault;
+pub use page::MAX_SHEET;
+pub use reading::read;
+pub use writing::write;

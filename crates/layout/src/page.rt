@@ -33,7 +33,10 @@ impl Page {
     pub fn blank() -> Page
         ensures { λ r. ⌜ (take (r .count) (r .bytes) ≡ []) × (r .count ≡ 0) ⌝ }
     {
-        Page { bytes: [0; 626], count: 0 }
+        Page {
+            bytes: [0; 626],
+            count: 0,
+        }
     }
 
     // How many bytes are laid out.
