@@ -44,7 +44,7 @@ pub const END: u8 = 0x05;
 
 impl Stage {
     // Whether a field with this tag may come next.
-    pub fn allows(self, tag: u8) -> bool
+    pub(crate) fn allows(self, tag: u8) -> bool
         ensures { λ r. ⌜ r ≡ allows self tag ⌝ }
     {
         match self {
@@ -58,7 +58,7 @@ impl Stage {
 }
 
 // The length of the value of a field with this tag.
-pub fn length_for(tag: u8) -> u16
+pub(crate) fn length_for(tag: u8) -> u16
     ensures { λ r. ⌜ r ≡ length-for tag ⌝ }
 {
     match tag {

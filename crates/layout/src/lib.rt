@@ -1,10 +1,10 @@
 // The byte layout of a flow sheet: `read` makes a job of bytes, `write` lays a job out into bytes.
-pub mod entry;
+mod entry;
 pub mod fault;
-pub mod page;
-pub mod reader;
-pub mod reading;
-pub mod writing;
+mod page;
+mod reader;
+mod reading;
+mod writing;
 
 pub use fault::Fault;
 pub use page::MAX_SHEET;

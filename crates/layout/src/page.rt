@@ -30,7 +30,7 @@ pub struct Page {
 
 impl Page {
     // The page without a byte.
-    pub fn blank() -> Page
+    pub(crate) fn blank() -> Page
         ensures { λ r. ⌜ (take (r .count) (r .bytes) ≡ []) × (r .count ≡ 0) ⌝ }
     {
         Page {
@@ -40,7 +40,7 @@ impl Page {
     }
 
     // How many bytes are laid out.
-    pub fn count(&self) -> usize
+    pub(crate) fn count(&self) -> usize
         ensures { λ r. ⌜ r ≡ now (self .entry) .count ⌝ }
     {
         self.count
@@ -128,7 +128,7 @@ impl Page {
 
     // Copies the bytes that are laid out to the front of the buffer, and tells how many there are. Refuses a buffer
     // that is shorter, and leaves it as it was.
-    pub fn copy_to(&self, buffer: &mut [u8]) -> Result<usize, Refusal>
+    pub(crate) fn copy_to(&self, buffer: &mut [u8]) -> Result<usize, Refusal>
         ensures reply { λ r. ⌜ Answers r (write-fault (take (now (self .entry) .count) (now (self .entry) .bytes)) (now (buffer .entry))) (λ n. n ≡ length (take (now (self .entry) .count) (now (self .entry) .bytes))) ⌝ }
         ensures after { λ _. ⌜ now (buffer .exit) ≡ written-over (take (now (self .entry) .count) (now (self .entry) .bytes)) (now (buffer .entry)) ⌝ }
     {

@@ -123,7 +123,7 @@ impl<'a> Reader<'a> {
     }
 
     // The same result, with the byte of the field that is being read beside a refusal.
-    pub fn at_field<T>(&self, result: Result<T, Refusal>) -> Result<T, Fault>
+    pub(crate) fn at_field<T>(&self, result: Result<T, Refusal>) -> Result<T, Fault>
         ensures { λ r. ⌜ r ≡ placed (now (self .entry) .field) result ⌝ }
     {
         match result {
@@ -157,7 +157,7 @@ impl<'a> Reader<'a> {
     }
 
     // The next field, once its head is sound at this stage.
-    pub fn entry(&mut self, stage: Stage) -> Result<Entry, Fault>
+    pub(crate) fn entry(&mut self, stage: Stage) -> Result<Entry, Fault>
         ensures kept { λ _. ⌜ (now (self .exit) .bytes .now ≡ now (self .entry) .bytes .now) × (now (self .exit) .field ≡ now (self .entry) .at) ⌝ }
         ensures cases { λ r. ⌜ Cases r (λ e. Peeked stage (now (self .entry) .bytes .now) (now (self .entry) .at) (now (self .exit) .at) e) (λ f. (number-of (f .refusal) ≡ open-fault stage (drop (now (self .entry) .at) (now (self .entry) .bytes .now))) × (f .byte ≡ now (self .entry) .at)) ⌝ }
     {
@@ -172,7 +172,7 @@ impl<'a> Reader<'a> {
     }
 
     // Ends the reading: nothing may follow the end field.
-    pub fn finish(&mut self) -> Result<(), Fault>
+    pub(crate) fn finish(&mut self) -> Result<(), Fault>
         ensures kept { λ _. ⌜ now (self .exit) .bytes .now ≡ now (self .entry) .bytes .now ⌝ }
         ensures cases { λ r. ⌜ Cases r (λ _. now (self .entry) .at ≡ length (now (self .entry) .bytes .now)) (λ f. (now (self .entry) .at < length (now (self .entry) .bytes .now)) × (f ≡ record { refusal = Refusal.TrailingBytes; byte = now (self .entry) .at })) ⌝ }
     {
@@ -184,7 +184,7 @@ impl<'a> Reader<'a> {
     }
 
     // A reader at the first of these bytes.
-    pub fn new(bytes: &'a [u8]) -> Reader<'a>
+    pub(crate) fn new(bytes: &'a [u8]) -> Reader<'a>
         ensures { λ r. ⌜ (r .bytes .now ≡ now (bytes .entry)) × (r .at ≡ 0) × (r .field ≡ 0) ⌝ }
     {
         Reader {

@@ -26,7 +26,7 @@ pub struct FlowList {
 
 impl FlowList {
     // The list of one flow.
-    pub fn of(flow: Flow) -> FlowList
+    pub(crate) fn of(flow: Flow) -> FlowList
         ensures { λ r. ⌜ listed (r .flows) (r .count) ≡ flow .parameters ∷ [] ⌝ }
     {
         FlowList {
@@ -36,14 +36,14 @@ impl FlowList {
     }
 
     // How many flows there are.
-    pub fn len(&self) -> usize
+    pub(crate) fn len(&self) -> usize
         ensures { λ r. ⌜ r ≡ length (listed (now (self .entry) .flows) (now (self .entry) .count)) ⌝ }
     {
         self.count
     }
 
     // The flow with this number, from 1 up; none outside 1 to the number of flows.
-    pub fn get(&self, number: usize) -> Option<Flow>
+    pub(crate) fn get(&self, number: usize) -> Option<Flow>
         ensures { λ r. ⌜ said-of r ≡ flow-numbered number (listed (now (self .entry) .flows) (now (self .entry) .count)) ⌝ }
     {
         if number < 1 || number > self.count {
@@ -53,7 +53,7 @@ impl FlowList {
     }
 
     // Whether some flow has this label.
-    pub fn has_label(&self, label: u16) -> bool
+    pub(crate) fn has_label(&self, label: u16) -> bool
         ensures { λ r. ⌜ r ≡ labelled label (listed (now (self .entry) .flows) (now (self .entry) .count)) ⌝ }
     {
         for i in 0..self.count {
@@ -66,7 +66,7 @@ impl FlowList {
 
     // Puts one more flow last. Refuses a label that is already there, then a 21st flow; a refusal changes
     // nothing.
-    pub fn add(&mut self, flow: Flow) -> Result<(), Refusal>
+    pub(crate) fn add(&mut self, flow: Flow) -> Result<(), Refusal>
         ensures reply { λ r. ⌜ Answers r (add-fault (listed (now (self .entry) .flows) (now (self .entry) .count)) (flow .parameters)) (λ _. Unit {0}) ⌝ }
         ensures after { λ _. ⌜ listed (now (self .exit) .flows) (now (self .exit) .count) ≡ after-adding (listed (now (self .entry) .flows) (now (self .entry) .count)) (flow .parameters) ⌝ }
     {
@@ -83,7 +83,7 @@ impl FlowList {
     }
 
     // Whether the other list has the same flows in the same order.
-    pub fn same(&self, other: &FlowList) -> bool
+    pub(crate) fn same(&self, other: &FlowList) -> bool
         ensures { λ r. ⌜ Decides r (listed (now (self .entry) .flows) (now (self .entry) .count) ≡ listed (now (other .entry) .flows) (now (other .entry) .count)) ⌝ }
     {
         if self.count != other.count {

@@ -9,7 +9,9 @@ use crate::pair_list::PairList;
 use crate::sheet::Sheet;
 use chip::Ticks;
 
-mod methods;
+mod changes;
+pub mod equality;
+mod questions;
 
 // Each pair names two flows of the sheet.
 #[derive(Drop)]

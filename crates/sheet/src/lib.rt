@@ -1,10 +1,10 @@
 // What a planner hands in: a draft of flows, the sheet that it is closed into, and the job of planning it.
 pub mod draft;
-pub mod flow_list;
+mod flow_list;
 pub mod job;
 pub mod letter;
 pub mod pair;
-pub mod pair_list;
+mod pair_list;
 pub mod sheet;
 
 pub use draft::Draft;

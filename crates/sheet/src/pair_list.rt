@@ -25,7 +25,7 @@ pub struct PairList {
 
 impl PairList {
     // The list without a pair.
-    pub fn none() -> PairList
+    pub(crate) fn none() -> PairList
         ensures { λ r. ⌜ take (r .count) (r .pairs) ≡ [] ⌝ }
     {
         let blank = Pair { first: 0, later: 0 };
@@ -36,14 +36,14 @@ impl PairList {
     }
 
     // How many pairs there are.
-    pub fn len(&self) -> usize
+    pub(crate) fn len(&self) -> usize
         ensures { λ r. ⌜ r ≡ length (take (now (self .entry) .count) (now (self .entry) .pairs)) ⌝ }
     {
         self.count
     }
 
     // The pair at a place, counted from 0; none past the last.
-    pub fn get(&self, place: usize) -> Option<Pair>
+    pub(crate) fn get(&self, place: usize) -> Option<Pair>
         ensures { λ r. ⌜ r ≡ nth (take (now (self .entry) .count) (now (self .entry) .pairs)) place ⌝ }
     {
         if place >= self.count {
@@ -53,7 +53,7 @@ impl PairList {
     }
 
     // Puts one more pair last. Refuses a 17th pair; a refusal changes nothing.
-    pub fn add(&mut self, pair: Pair) -> Result<(), Refusal>
+    pub(crate) fn add(&mut self, pair: Pair) -> Result<(), Refusal>
         ensures reply { λ r. ⌜ Answers r (cond (leb 16 (length (take (now (self .entry) .count) (now (self .entry) .pairs)))) 12 0) (λ _. Unit {0}) ⌝ }
         ensures after { λ _. ⌜ take (now (self .exit) .count) (now (self .exit) .pairs) ≡ cond (leb 16 (length (take (now (self .entry) .count) (now (self .entry) .pairs)))) (take (now (self .entry) .count) (now (self .entry) .pairs)) (take (now (self .entry) .count) (now (self .entry) .pairs) ++ pair ∷ []) ⌝ }
     {
@@ -67,7 +67,7 @@ impl PairList {
     }
 
     // Whether the other list has the same pairs in the same order.
-    pub fn same(&self, other: &PairList) -> bool
+    pub(crate) fn same(&self, other: &PairList) -> bool
         ensures { λ r. ⌜ Decides r (take (now (self .entry) .count) (now (self .entry) .pairs) ≡ take (now (other .entry) .count) (now (other .entry) .pairs)) ⌝ }
     {
         if self.count != other.count {
