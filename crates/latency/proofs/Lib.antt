@@ -1,0 +1,6 @@
+mod Fixed
+mod Sums
+mod Loads
+mod LawsOfD
+mod LawsOfL
+mod LawsOfJ

@@ -1,0 +1,4 @@
+pub mod Solution
+pub mod Members
+pub mod Interference
+pub mod Rules
