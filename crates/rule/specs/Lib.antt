@@ -1,3 +1,4 @@
 pub mod Lists
 pub mod Meaning
 pub mod Laws
+pub mod FlowSets

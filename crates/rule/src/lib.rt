@@ -2,6 +2,10 @@
 ghost use Rattle.rule.specs.Laws.{Lawful};
 ghost use Rattle.rule.specs.Meaning.{Meaning};
 
+pub mod flow_set;
+
+pub use flow_set::FlowSet;
+
 pub trait Rule {
     ghost meaning: { Self → Meaning };
 
