@@ -6,6 +6,7 @@
 use mathlib.Core.Path.{_≡_}
 use mathlib.Core.Bool.{Bool, true, false, _||_, cond}
 use mathlib.Core.List.{List, [], _∷_}
+use mathlib.Core.Logic.{_↔_}
 use Prim.Native.Nat.{ℕ, zero, suc, _+_, _-_, _*_}
 use lib.Dec.{ltb, eqb}
 use lib.ListN.{set, replicate}
@@ -81,6 +82,24 @@ abbrev pub marked : List ℕ → List Bool → List Bool
 marked [] table = table
 marked (k ∷ ks) table = marked ks (set table k true)
 
--- a route as 216 marks, one for each link of the mesh
+-- the table without a mark: one place for each of the 216 links
+unfoldable pub no-marks : List Bool
+no-marks = replicate 216 false
+
+-- a route as a table of marks, one for each link of the mesh
 unfoldable pub route-marks : FlowParameters → List Bool
-route-marks p = marked (links p) (replicate 216 false)
+route-marks p = marked (links p) no-marks
+
+-- how many marks a table has
+abbrev pub count : List Bool → ℕ
+count [] = 0
+count (mark ∷ table) = cond mark 1 0 + count table
+
+-- What sharing is, in plain words.
+pub record Sharing : Type 0 where
+  -- two flows share exactly when some link is in both routes
+  pub some-link : (p q : FlowParameters) → (shares p q ≡ true) ↔ ((k : ℕ) × (among k (links p) ≡ true) × (among k (links q) ≡ true))
+  -- a flow shares with whoever shares with it
+  pub symmetric : (p q : FlowParameters) → shares p q ≡ shares q p
+  -- a flow shares with itself
+  pub itself : (p : FlowParameters) → shares p p ≡ true

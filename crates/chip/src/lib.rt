@@ -3,9 +3,11 @@ pub mod flow;
 pub mod parameters;
 pub mod port;
 pub mod refusal;
+pub mod route;
 
 pub use flow::Flow;
 pub use parameters::FlowParameters;
 pub use parameters::Router;
 pub use port::Port;
 pub use refusal::Refusal;
+pub use route::Route;
