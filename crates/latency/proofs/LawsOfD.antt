@@ -12,7 +12,7 @@ use Rattle.chip.specs.declared.parameters.FlowParameters.{FlowParameters}
 use Rattle.rule.specs.Lists.{is-flow, among, distinct, proper, marks, Struck}
 use Rattle.rule.specs.Meaning.{No-later}
 use Rattle.rule.specs.Laws.{Lawful}
-use Rattle.latency.specs.Members.{members}
+use Rattle.rule.specs.FlowSets.{members}
 use Rattle.latency.specs.Interference.{flow, direct, counted}
 use Rattle.latency.specs.Rules.{none-extra, bound-D, meaning-D}
 use Rattle.latency.proofs.Loads.{load-members, load-struck, settled-timely, settled-sooner, settled-same}

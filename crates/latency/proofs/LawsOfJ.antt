@@ -18,11 +18,11 @@ use Rattle.rule.specs.Lists.Struck.{none, kept, out}
 use Rattle.rule.specs.Meaning.{No-later, In-time, Passes, Passes-under}
 use Rattle.rule.specs.Laws.{Lawful}
 use Rattle.latency.specs.Solution.{Interferer, taken, load}
-use Rattle.latency.specs.Members.{members}
+use Rattle.rule.specs.FlowSets.{members}
 use Rattle.latency.specs.Interference.{flow, share, direct, disturbed, any, interferer, counted, settled, lateness, delayed}
 use Rattle.latency.specs.Rules.{none-extra, bound-D, solution-J, all-settled, bound-J, ceiling-extra, ceiling-J, meaning-J}
 use Rattle.latency.proofs.Sums.{any-members, any-struck, any-reverse, struck-reverse}
-use Rattle.latency.proofs.Loads.{load-members, load-reverse, share-grows, settled-timely, settled-sooner}
+use Rattle.latency.proofs.Loads.{load-front, load-counted-cons, load-members, load-reverse, share-grows, settled-timely, settled-sooner}
 use Rattle.latency.proofs.LawsOfD.{proper-distinct}
 
 -- an answer that is there
@@ -33,11 +33,6 @@ some-of None e = let z : _≡_ {A = ℕ} 0 1 = cc in absurd (omega arith)
 some-no-later : (o : Option ℕ) (r : ℕ) → No-later o r → isSome o ≡ true
 some-no-later (Some s) r h = refl
 some-no-later None r h = absurd h
-
--- one flow more, if it counts
-load-front : (c : Bool) (x : Interferer) (xs : List Interferer) (t : ℕ) → load (cond c (x ∷ xs) xs) t ≡ cond c (taken x t) 0 + load xs t
-load-front true x xs t = refl
-load-front false x xs t = omega arith
 
 -- the interference jitter of flow j under those above it
 abbrev jitter-J : List FlowParameters → ℕ → ℕ → List ℕ → ℕ
@@ -87,7 +82,7 @@ module _ (fs : List FlowParameters) where
   unfolding delayed
   delayed-at-least f t [] = omega arith
   delayed-at-least f t (j ∷ above) =
-      omega (arith, load-front (direct fs f j) (interferer fs j 0) (counted fs (direct fs f) none-extra above) t, load-delayed fs f j t above, share-grows fs t j (direct fs f j) (direct fs f j) 0 (jitter-J fs f j above) (λ e. e) (omega arith), delayed-at-least f t above)
+      omega (arith, load-counted-cons fs (direct fs f) none-extra t j above, load-delayed fs f j t above, share-grows fs t j (direct fs f j) (direct fs f j) 0 (jitter-J fs f j above) (λ e. e) (omega arith), delayed-at-least f t above)
 
   -- rule J counts no more than its ceiling does under more flows
   delayed-at-most : (f t : ℕ) (all above : List ℕ) → all-settled fs above ≡ true → ((p : ℕ → Bool) → any p above ≡ true → any p all ≡ true) → load (delayed fs f above) t ≤ load (counted fs (direct fs f) (ceiling-extra fs f all) above) t
@@ -99,7 +94,7 @@ module _ (fs : List FlowParameters) where
       let own = some-of (solution-J fs j above) (parts .0) in
       let timely : In-time (Some (own .0)) (flow fs j .deadline) = rw (own .1) at (settled-timely fs j (delayed fs j above)) in
       let less : jitter-J fs f j above ≤ ceiling-extra fs f all j = jitter-less (disturbed fs f above j) (disturbed fs f all j) (lateness fs j (solution-J fs j above)) (flow fs j .deadline - flow fs j .latency) (within (λ k. share fs k j && not (share fs k f))) (rw (own .1) (omega arith)) in
-      omega (arith, load-front (direct fs f j) (interferer fs j (ceiling-extra fs f all j)) (counted fs (direct fs f) (ceiling-extra fs f all) above) t, load-delayed fs f j t above, share-grows fs t j (direct fs f j) (direct fs f j) (jitter-J fs f j above) (ceiling-extra fs f all j) (λ e. e) less, delayed-at-most f t all above (parts .1) within)
+      omega (arith, load-counted-cons fs (direct fs f) (ceiling-extra fs f all) t j above, load-delayed fs f j t above, share-grows fs t j (direct fs f j) (direct fs f j) (jitter-J fs f j above) (ceiling-extra fs f all j) (λ e. e) less, delayed-at-most f t all above (parts .1) within)
 
 -- a bound told: every flow above has a solution, and the bound is the flow's own
 told-parts : (b : Bool) (o : Option ℕ) (r : ℕ) → cond b o None ≡ Some r → (b ≡ true) × (o ≡ Some r)

@@ -12,7 +12,7 @@ use Rattle.chip.specs.declared.parameters.FlowParameters.{FlowParameters}
 use Rattle.rule.specs.Lists.{proper, marks, Struck}
 use Rattle.rule.specs.Laws.{Lawful}
 use Rattle.latency.specs.Solution.{load}
-use Rattle.latency.specs.Members.{members}
+use Rattle.rule.specs.FlowSets.{members}
 use Rattle.latency.specs.Interference.{share, direct, indirect, any, counted, settled}
 use Rattle.latency.specs.Rules.{none-extra, counts-L, bound-L, meaning-L}
 use Rattle.latency.proofs.Sums.{any-members, any-struck}
@@ -22,7 +22,7 @@ use Rattle.latency.proofs.LawsOfD.{proper-distinct, as-soon}
 -- which flows count depends on the set of the list alone
 counts-L-members : (fs : List FlowParameters) (f : ℕ) (above : List ℕ) → length fs ≤ 20 → proper (length fs) f above ≡ true → counts-L fs f (members (marks above)) ≡ counts-L fs f above
 counts-L-members fs f above few asked =
-    fun-ext (λ j. ap (λ b. direct fs f j || (b && not (share fs j f))) (sym (any-members (λ k. direct fs f k && share fs k j) (length fs) above few (proper-distinct (length fs) f above asked))))
+    fun-ext (λ j. ap (λ b. direct fs f j || (b && not (share fs j f))) (sym (any-members (λ k. direct fs f k && share fs j k) (length fs) above few (proper-distinct (length fs) f above asked))))
 
 -- the bound under a list is the bound under its set
 bound-L-members : (fs : List FlowParameters) (f : ℕ) (above : List ℕ) → length fs ≤ 20 → proper (length fs) f above ≡ true → bound-L fs f (members (marks above)) ≡ bound-L fs f above
@@ -36,8 +36,8 @@ counts-L-struck : (fs : List FlowParameters) (f : ℕ) {fewer above : List ℕ} 
 counts-L-struck fs f {fewer} {above} s j h = elim (or-cases (direct fs f j) (indirect fs f fewer j) h) [
   | inl near ↦ or-left (direct fs f j) (indirect fs f above j) near
   | inr far ↦
-      let parts = and-parts (any (λ k. direct fs f k && share fs k j) fewer) (not (share fs j f)) far in
-      or-right (direct fs f j) (indirect fs f above j) (and-from (any (λ k. direct fs f k && share fs k j) above) (not (share fs j f)) (any-struck (λ k. direct fs f k && share fs k j) s (parts .0)) (parts .1))
+      let parts = and-parts (any (λ k. direct fs f k && share fs j k) fewer) (not (share fs j f)) far in
+      or-right (direct fs f j) (indirect fs f above j) (and-from (any (λ k. direct fs f k && share fs j k) above) (not (share fs j f)) (any-struck (λ k. direct fs f k && share fs j k) s (parts .0)) (parts .1))
 ]
 
 load-L-struck : (fs : List FlowParameters) (f t : ℕ) {fewer above : List ℕ} → Struck fewer above → load (counted fs (counts-L fs f fewer) none-extra fewer) t ≤ load (counted fs (counts-L fs f above) none-extra above) t

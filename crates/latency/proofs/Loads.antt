@@ -8,15 +8,16 @@ use mathlib.Core.List.{List, [], _∷_, reverse}
 use Prim.Native.Nat.{ℕ, zero, suc, _+_, _-_, _*_, _/_, _≤_, _<_}
 use native.Mathlib.Omega.{arith}
 use native.Mathlib.Nat.{le-trans, le-refl, div-zero, div-mul-le-self, le-div-iff-mul-le, mul-le-mul-right}
+use Rattle.std.specs.shelf.Lists.{kept-by}
 use Rattle.std.specs.declared.option.Option.{Option}
 use Rattle.std.specs.declared.option.Option.the-variants.{Some, None}
 use Rattle.chip.specs.declared.parameters.FlowParameters.{FlowParameters}
 use Rattle.std.proofs.shelf.Tests.{false≢true}
 use Rattle.rule.specs.Lists.{distinct, marks, Struck}
 use Rattle.rule.specs.Meaning.{No-later, In-time}
-use Rattle.latency.specs.Members.{members}
+use Rattle.rule.specs.FlowSets.{members}
 use Rattle.latency.specs.Solution.{Interferer, up, taken, load, demand, first-fixed, least, Least}
-use Rattle.latency.specs.Interference.{flow, interferer, counted, settled}
+use Rattle.latency.specs.Interference.{flow, interferer, interferers, counted, settled}
 use Rattle.latency.proofs.Fixed.{least-is, fixed-below, found, no-later, timely}
 use Rattle.latency.proofs.Sums.{total, total-le, total-members, total-reverse, total-struck}
 
@@ -50,12 +51,19 @@ same base limit xs ys e = ap (λ g. first-fixed g (suc limit) 0) (fun-ext (λ t.
 abbrev pub share-of : List FlowParameters → (ℕ → Bool) → (ℕ → ℕ) → ℕ → ℕ → ℕ
 share-of fs counts extra r j = cond (counts j) (taken (interferer fs j (extra j)) r) 0
 
+-- one flow more, if it counts
+pub load-front : (c : Bool) (x : Interferer) (xs : List Interferer) (r : ℕ) → load (cond c (x ∷ xs) xs) r ≡ cond c (taken x r) 0 + load xs r
+load-front true x xs r = refl
+load-front false x xs r = omega arith
+
+pub load-counted-cons : (fs : List FlowParameters) (counts : ℕ → Bool) (extra : ℕ → ℕ) (r j : ℕ) (js : List ℕ) → load (counted fs counts extra (j ∷ js)) r ≡ share-of fs counts extra r j + load (counted fs counts extra js) r
+load-counted-cons fs counts extra r j js = elim (counts j) as (λ b. load (interferers fs extra (cond b (j ∷ kept-by counts js) (kept-by counts js))) r ≡ cond b (taken (interferer fs j (extra j)) r) 0 + load (counted fs counts extra js) r) [
+      true ↦ refl
+    | false ↦ omega arith ]
+
 pub load-counted : (fs : List FlowParameters) (counts : ℕ → Bool) (extra : ℕ → ℕ) (r : ℕ) (js : List ℕ) → load (counted fs counts extra js) r ≡ total (share-of fs counts extra r) js
 load-counted fs counts extra r [] = refl
-load-counted fs counts extra r (j ∷ js) = elim (counts j) as (λ b. load (cond b (interferer fs j (extra j) ∷ counted fs counts extra js) (counted fs counts extra js)) r ≡ cond b (taken (interferer fs j (extra j)) r) 0 + total (share-of fs counts extra r) js) [
-  | true ↦ omega (arith, load-counted fs counts extra r js)
-  | false ↦ omega (arith, load-counted fs counts extra r js)
-]
+load-counted fs counts extra r (j ∷ js) = load-counted-cons fs counts extra r j js ∙ ap (λ n. share-of fs counts extra r j + n) (load-counted fs counts extra r js)
 
 -- the same in another order, or with flows struck
 module _ (fs : List FlowParameters) (counts : ℕ → Bool) (extra : ℕ → ℕ) (r : ℕ) where

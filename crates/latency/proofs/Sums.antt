@@ -13,7 +13,7 @@ use lib.Dec.{eqb, leb, ltb}
 use Rattle.std.proofs.shelf.Tests.{and-parts, not-true, eqb-true, eqb-false, leb-true, lt-ltb, cases-eq, eq-eqb, ne-eqb, or-cases, or-left, or-right}
 use Rattle.rule.specs.Lists.{is-flow, among, distinct, marks, marks-from, Struck}
 use Rattle.rule.specs.Lists.Struck.{none, kept, out}
-use Rattle.latency.specs.Members.{members, members-from}
+use Rattle.rule.specs.FlowSets.{members, members-from}
 use Rattle.latency.specs.Interference.{any}
 
 -- the sum of a weight over a list

@@ -7,9 +7,10 @@
 --   counted      the flows of a list that a rule counts, as interferers
 --   delayed      the flows that rule J counts, each with its interference jitter
 use mathlib.Core.Bool.{Bool, false, _&&_, _||_, not, cond}
-use mathlib.Core.List.{List, [], _∷_}
+use mathlib.Core.List.{List, [], _∷_, map}
 use Prim.Native.Nat.{ℕ, _+_, _-_}
 use lib.ListN.{getD}
+use Rattle.std.specs.shelf.Lists.{kept-by}
 use Rattle.std.specs.declared.option.Option.{Option}
 use Rattle.std.specs.declared.option.Option.the-variants.{Some, None}
 use Rattle.chip.specs.declared.parameters.FlowParameters.{FlowParameters}
@@ -37,9 +38,9 @@ any p (g ∷ gs) = p g || any p gs
 abbrev pub direct : List FlowParameters → ℕ → ℕ → Bool
 direct fs f j = share fs j f
 
--- whether flow j, above f, is indirect: a direct flow of `above` shares with it, and it does not share with f
+-- whether flow j, above f, is indirect: it shares with a direct flow of `above`, and not with f
 abbrev pub indirect : List FlowParameters → ℕ → List ℕ → ℕ → Bool
-indirect fs f above j = any (λ k. direct fs f k && share fs k j) above && not (share fs j f)
+indirect fs f above j = any (λ k. direct fs f k && share fs j k) above && not (share fs j f)
 
 -- whether some flow of `above` shares with j and not with f, so that j's packets may reach f's route late
 abbrev pub disturbed : List FlowParameters → ℕ → List ℕ → ℕ → Bool
@@ -49,12 +50,13 @@ disturbed fs f above j = any (λ k. share fs k j && not (share fs k f)) above
 abbrev pub interferer : List FlowParameters → ℕ → ℕ → Interferer
 interferer fs j extra = record { period = flow fs j .period; latency = flow fs j .latency; offset = flow fs j .jitter + extra }
 
--- the flows of a list that count, each with its interference jitter
+-- flows as interferers, each with its interference jitter
+abbrev pub interferers : List FlowParameters → (ℕ → ℕ) → List ℕ → List Interferer
+interferers fs extra js = map (λ j. interferer fs j (extra j)) js
+
+-- the flows of a list that count, as interferers
 abbrev pub counted : List FlowParameters → (ℕ → Bool) → (ℕ → ℕ) → List ℕ → List Interferer
-counted fs counts extra [] = []
-counted fs counts extra (j ∷ js) =
-    let rest : List Interferer = counted fs counts extra js in
-    cond (counts j) (interferer fs j (extra j) ∷ rest) rest
+counted fs counts extra js = interferers fs extra (kept-by counts js)
 
 -- the least solution within the deadline of the equation of flow f with these interferers
 abbrev pub settled : List FlowParameters → ℕ → List Interferer → Option ℕ

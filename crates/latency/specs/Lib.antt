@@ -1,4 +1,3 @@
 pub mod Solution
-pub mod Members
 pub mod Interference
 pub mod Rules

@@ -12,7 +12,7 @@ use Rattle.std.specs.declared.option.Option.the-variants.{Some, None}
 use Rattle.chip.specs.declared.parameters.FlowParameters.{FlowParameters}
 use Rattle.rule.specs.Meaning.{Meaning}
 use Rattle.latency.specs.Solution.{Interferer}
-use Rattle.latency.specs.Members.{members}
+use Rattle.rule.specs.FlowSets.{members}
 use Rattle.latency.specs.Interference.{flow, direct, indirect, disturbed, counted, settled, delayed}
 
 -- no interference jitter
