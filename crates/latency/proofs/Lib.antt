@@ -1,4 +1,6 @@
 mod Fixed
+mod Filling
+mod Sharers
 mod Sums
 mod Loads
 mod LawsOfD

@@ -58,8 +58,9 @@ load-front false x xs r = omega arith
 
 pub load-counted-cons : (fs : List FlowParameters) (counts : ℕ → Bool) (extra : ℕ → ℕ) (r j : ℕ) (js : List ℕ) → load (counted fs counts extra (j ∷ js)) r ≡ share-of fs counts extra r j + load (counted fs counts extra js) r
 load-counted-cons fs counts extra r j js = elim (counts j) as (λ b. load (interferers fs extra (cond b (j ∷ kept-by counts js) (kept-by counts js))) r ≡ cond b (taken (interferer fs j (extra j)) r) 0 + load (counted fs counts extra js) r) [
-      true ↦ refl
-    | false ↦ omega arith ]
+  | true ↦ refl
+  | false ↦ omega arith
+]
 
 pub load-counted : (fs : List FlowParameters) (counts : ℕ → Bool) (extra : ℕ → ℕ) (r : ℕ) (js : List ℕ) → load (counted fs counts extra js) r ≡ total (share-of fs counts extra r) js
 load-counted fs counts extra r [] = refl

@@ -1,3 +1,5 @@
 pub mod Solution
 pub mod Interference
 pub mod Rules
+pub mod Tables
+pub mod Chips

@@ -1,4 +1,6 @@
 // Latency rules of the mesh chip: the least solution of a latency's equation, and the rules D, J and L.
+mod traffic;
+
 ghost use Prim.Native.Nat.{ℕ, _≤_};
 ghost use mathlib.Core.List.{List};
 ghost use lib.ListN.{length};
