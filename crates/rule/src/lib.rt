@@ -1,13 +1,13 @@
 // What a rule is: sets of flows, the meaning of a rule, its laws, and the trait by which any rule is asked.
-ghost use Rattle.rule.specs.Laws.{Lawful};
-ghost use Rattle.rule.specs.Meaning.{Meaning};
-
+pub mod bounds;
 pub mod flow_set;
+pub mod proper;
+pub mod questions;
 
+pub use bounds::Bounds;
 pub use flow_set::FlowSet;
-
-pub trait Rule {
-    ghost meaning: { Self → Meaning };
-
-    law lawful: { (r : Self) → Lawful (meaning r) };
-}
+pub use proper::is_distinct;
+pub use proper::is_flow;
+pub use proper::is_proper;
+pub use proper::is_proper_set;
+pub use questions::Rule;
