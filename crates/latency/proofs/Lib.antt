@@ -1,4 +1,6 @@
 mod Fixed
+mod Chips
+mod Walking
 mod Filling
 mod Sharers
 mod Sums

@@ -19,7 +19,8 @@ use Rattle.rule.specs.FlowSets.{members}
 use Rattle.latency.specs.Solution.{Interferer, up, taken, load, demand, first-fixed, least, Least}
 use Rattle.latency.specs.Interference.{flow, interferer, interferers, counted, settled}
 use Rattle.latency.proofs.Fixed.{least-is, fixed-below, found, no-later, timely}
-use Rattle.latency.proofs.Sums.{total, total-le, total-members, total-reverse, total-struck}
+use Rattle.latency.specs.Tables.{total}
+use Rattle.latency.proofs.Sums.{total-le, total-members, total-reverse, total-struck}
 
 -- division keeps order
 div-grows : (a b t : ℕ) → a ≤ b → a / t ≤ b / t

@@ -1,5 +1,4 @@
 -- Sums over lists of flows: pointwise, under striking, and over the members of a list's set. Assumes nothing.
---   total           the sum of a weight over a list
 --   total-members   over a list without repeats it is the sum over the members of its set
 --   any-members     some flow of a list has a property exactly if some member of its set has it
 use mathlib.Core.Path.{_≡_, refl, sym, _∙_, ap}
@@ -15,11 +14,7 @@ use Rattle.rule.specs.Lists.{is-flow, among, distinct, marks, marks-from, Struc
 use Rattle.rule.specs.Lists.Struck.{none, kept, out}
 use Rattle.rule.specs.FlowSets.{members, members-from}
 use Rattle.latency.specs.Interference.{any}
-
--- the sum of a weight over a list
-abbrev pub total : (ℕ → ℕ) → List ℕ → ℕ
-total w [] = 0
-total w (g ∷ gs) = w g + total w gs
+use Rattle.latency.specs.Tables.{total}
 
 pub total-le : (v w : ℕ → ℕ) → ((g : ℕ) → v g ≤ w g) → (gs : List ℕ) → total v gs ≤ total w gs
 total-le v w less [] = omega arith

@@ -9,7 +9,9 @@ ghost use Rattle.latency.specs.Tables.{chip-of, row};
 use chip::Flow;
 use rule::FlowSet;
 
+mod asking;
 mod making;
+mod solving;
 
 // A chip of 1 to 20 flows; the set of a flow holds the flows that share with it.
 #[derive(Clone, Copy)]

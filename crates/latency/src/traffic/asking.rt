@@ -1,0 +1,39 @@
+// What is asked of a chip: its flows by number, and the flows of a set that share with one.
+ghost use mathlib.Core.Path.{_≡_};
+ghost use mathlib.Core.Bool.{true, _&&_};
+ghost use Prim.Native.Nat.{ℕ, _≤_, _<_};
+ghost use lib.ListN.{length};
+ghost use Rattle.rule.specs.FlowSets.{marks-of};
+ghost use Rattle.rule.specs.Lists.{is-flow, has};
+ghost use Rattle.latency.specs.Chips.{chip};
+ghost use Rattle.latency.specs.Interference.{flow, share};
+use crate::traffic::Traffic;
+use chip::FlowParameters;
+use rule::FlowSet;
+
+impl Traffic {
+    // The number of flows.
+    pub(crate) fn count(&self) -> u8
+        ensures value { λ r. ⌜ r ≡ length (chip (now (self .entry))) ⌝ }
+        ensures range { λ r. ⌜ (1 ≤ r) × (r ≤ 20) ⌝ }
+    {
+        self.count
+    }
+
+    // Flow number f.
+    pub(crate) fn flow(&self, f: u8) -> FlowParameters
+        requires { ⌜ is-flow (length (chip (now self))) f ≡ true ⌝ }
+        ensures value { λ r. ⌜ r ≡ flow (chip (now (self .entry))) f ⌝ }
+        ensures times { λ r. ⌜ (1 ≤ r .latency) × (r .latency ≤ r .deadline) × (r .deadline ≤ r .period) × (r .period ≤ 1000000) × (r .jitter < r .period) ⌝ }
+    {
+        self.flows[f as usize - 1].parameters()
+    }
+
+    // The flows that share with flow f.
+    pub(crate) fn near(&self, f: u8) -> FlowSet
+        requires { ⌜ is-flow (length (chip (now self))) f ≡ true ⌝ }
+        ensures { λ r. ⌜ ((g : ℕ) → has (marks-of r) g ≡ (is-flow (length (chip (now (self .entry)))) g && share (chip (now (self .entry))) g f)) ⌝ }
+    {
+        self.near[f as usize - 1]
+    }
+}
