@@ -1,6 +1,7 @@
 mod Fixed
 mod Chips
 mod Walking
+mod Climb
 mod Filling
 mod Sharers
 mod Sums

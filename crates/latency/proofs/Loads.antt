@@ -7,7 +7,7 @@ use mathlib.Core.Bool.{Bool, true, false, cond}
 use mathlib.Core.List.{List, [], _∷_, reverse}
 use Prim.Native.Nat.{ℕ, zero, suc, _+_, _-_, _*_, _/_, _≤_, _<_}
 use native.Mathlib.Omega.{arith}
-use native.Mathlib.Nat.{le-trans, le-refl, div-zero, div-mul-le-self, le-div-iff-mul-le, mul-le-mul-right}
+use native.Mathlib.Nat.{le-trans, le-refl, div-zero, div-mul-le-self, le-div-iff-mul-le, mul-le-mul-left, mul-le-mul-right}
 use Rattle.std.specs.shelf.Lists.{kept-by}
 use Rattle.std.specs.declared.option.Option.{Option}
 use Rattle.std.specs.declared.option.Option.the-variants.{Some, None}
@@ -26,6 +26,10 @@ use Rattle.latency.proofs.Sums.{total-le, total-members, total-reverse, total-
 div-grows : (a b t : ℕ) → a ≤ b → a / t ≤ b / t
 div-grows a b zero h = omega (arith, div-zero a, div-zero b)
 div-grows a b (suc t) h = let some : 0 < suc t = omega arith in le-div-iff-mul-le some .1 (le-trans (div-mul-le-self a (suc t)) h)
+
+-- an interferer whose latency is within its period takes no more than its reach and one period
+pub part-small : (n t c : ℕ) → c ≤ t → up n t * c ≤ n + (t - 1)
+part-small n t c h = le-trans (mul-le-mul-left (up n t) h) (div-mul-le-self (n + (t - 1)) t)
 
 -- an interferer that comes later in a longer time takes no less
 pub taken-grows : (x y : Interferer) (s t : ℕ) → x .period ≡ y .period → x .latency ≡ y .latency → s + x .offset ≤ t + y .offset → taken x s ≤ taken y t

@@ -32,8 +32,9 @@ within-members n i [] some h j asked = let z : _≡_ {A = ℕ} 0 1 = cc in absur
 within-members n i (true ∷ set) some h j asked =
     let parts = and-parts (leb i n) (within-from n (suc i) set) h in
     elim (or-cases (eqb j i) (among j (members-from (suc i) set)) asked) [
-      inl e ↦ let f = eqb-true j i e in let g = leb-true i n (parts .0) in grind (arith, tells)
-    | inr later ↦ within-members n (suc i) set (omega arith) (parts .1) j later ]
+      | inl e ↦ let f = eqb-true j i e in let g = leb-true i n (parts .0) in grind (arith, tells)
+      | inr later ↦ within-members n (suc i) set (omega arith) (parts .1) j later
+    ]
 within-members n i (false ∷ set) some h j asked = within-members n (suc i) set (omega arith) h j asked
 
 -- a set within n holds flows of 1 to n only

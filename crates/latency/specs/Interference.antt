@@ -46,9 +46,13 @@ indirect fs f above j = any (λ k. direct fs f k && share fs j k) above && not (
 abbrev pub disturbed : List FlowParameters → ℕ → List ℕ → ℕ → Bool
 disturbed fs f above j = any (λ k. share fs k j && not (share fs k f)) above
 
--- flow j as an interferer, with interference jitter beside its release jitter
+-- a flow as an interferer, with interference jitter beside its release jitter
+abbrev pub interfering : FlowParameters → ℕ → Interferer
+interfering p extra = record { period = p .period; latency = p .latency; offset = p .jitter + extra }
+
+-- flow j as an interferer
 abbrev pub interferer : List FlowParameters → ℕ → ℕ → Interferer
-interferer fs j extra = record { period = flow fs j .period; latency = flow fs j .latency; offset = flow fs j .jitter + extra }
+interferer fs j extra = interfering (flow fs j) extra
 
 -- flows as interferers, each with its interference jitter
 abbrev pub interferers : List FlowParameters → (ℕ → ℕ) → List ℕ → List Interferer

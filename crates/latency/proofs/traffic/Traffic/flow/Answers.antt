@@ -15,4 +15,5 @@ pub returns : need.returns
 returns c =
     record {
       value = c .parameters .ensures ∙ sym (chip-flow (c .args .self .now) (c .args .f) (c .index-self-f .result) (c .pre));
-      times = rw (c .parameters .ensures) (getD (c .args .self .now .flows) (c .args .f - 1) (c .index-self-f .result) .times) }
+      times = rw (c .parameters .ensures) (getD (c .args .self .now .flows) (c .args .f - 1) (c .index-self-f .result) .times);
+    }

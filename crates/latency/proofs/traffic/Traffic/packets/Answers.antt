@@ -24,10 +24,11 @@ loop-j-again c =
     let w : ℕ → ℕ = λ j. flow (chip (c .args .self .now)) j .latency in
     let e = c .in-Some .ensures tt .0 in
     let sums : total w (members (marks-of (c .loop-j .left))) ≡ w (c .in-Some .j) + total w (members (marks-of (c .pop .last .self))) = ap (total w) e in
-    let own : c .flow-sum .result .latency ≡ w (c .in-Some .j) = ap (λ p. p .latency) (c .flow-sum .ensures .value) in
-    ( omega (arith, sums, own, c .loop-j .inv .0)
-    , omega (arith, ap length e, c .loop-j .inv .1, c .flow-sum .ensures .times)
-    , flows-tail (length (chip (c .args .self .now))) (c .in-Some .j) (members (marks-of (c .loop-j .left))) (members (marks-of (c .pop .last .self))) e (c .loop-j .inv .2))
+    let own : c .flow-sum .result .latency ≡ w (c .in-Some .j) = ap (λ p. p .latency) (c .flow-sum .ensures .value) in (
+      omega (arith, sums, own, c .loop-j .inv .0),
+      omega (arith, ap length e, c .loop-j .inv .1, c .flow-sum .ensures .times),
+      flows-tail (length (chip (c .args .self .now))) (c .in-Some .j) (members (marks-of (c .loop-j .left))) (members (marks-of (c .pop .last .self))) e (c .loop-j .inv .2),
+    )
 
 pub loop-j-less : need.loop-j-less
 loop-j-less c = omega (arith, ap length (c .in-Some .ensures tt .0))
