@@ -2,6 +2,8 @@ mod Fixed
 mod Chips
 mod Walking
 mod Climb
+mod Kept
+mod Solved
 mod Filling
 mod Sharers
 mod Sums

@@ -3,10 +3,11 @@ ghost use mathlib.Core.Path.{_≡_};
 ghost use mathlib.Core.Bool.{true, _&&_};
 ghost use Prim.Native.Nat.{ℕ, _≤_, _<_};
 ghost use lib.ListN.{length};
-ghost use Rattle.rule.specs.FlowSets.{marks-of};
-ghost use Rattle.rule.specs.Lists.{is-flow, has};
+ghost use Rattle.std.specs.shelf.Lists.{kept-by};
+ghost use Rattle.rule.specs.FlowSets.{marks-of, members};
+ghost use Rattle.rule.specs.Lists.{is-flow, has, within, marks};
 ghost use Rattle.latency.specs.Chips.{chip};
-ghost use Rattle.latency.specs.Interference.{flow, share};
+ghost use Rattle.latency.specs.Interference.{flow, share, direct};
 use crate::traffic::Traffic;
 use chip::FlowParameters;
 use rule::FlowSet;
@@ -36,4 +37,24 @@ impl Traffic {
     {
         self.near[f as usize - 1]
     }
+
+    // The flows of a set that share with flow f.
+    pub(crate) fn direct(&self, f: u8, set: FlowSet) -> FlowSet
+        requires { ⌜ is-flow (length (chip (now self))) f ≡ true ⌝ ∗ ⌜ within (length (chip (now self))) (marks-of set) ≡ true ⌝ }
+        ensures value { λ r. ⌜ members (marks-of r) ≡ kept-by (direct (chip (now (self .entry))) f) (members (marks-of set)) ⌝ }
+        ensures flows { λ r. ⌜ within (length (chip (now (self .entry)))) (marks-of r) ≡ true ⌝ }
+    {
+        set.and(self.near(f))
+    }
+}
+
+// The set of the flows of a list.
+pub(crate) fn set_of(list: &[u8]) -> FlowSet
+    ensures { λ r. ⌜ marks-of r ≡ marks (now (list .entry)) ⌝ }
+{
+    let mut set = FlowSet::none();
+    for g in list {
+        set = set.with(*g);
+    }
+    set
 }
