@@ -44,3 +44,10 @@ chip-near t f g x h =
     ap (λ set. has set g) (sym (getD-map marks-of (t .near) (f - 1) x [] (omega (arith, range))))
     ∙ t .shared f g asked
     ∙ ap (λ n. is-flow n g && share (chip t) g f) (sym (chip-length t))
+
+-- a chip has 1 to 20 flows
+pub chip-some : (t : Traffic) → 1 ≤ length (chip t)
+chip-some t = omega (arith, chip-length t)
+
+pub chip-few : (t : Traffic) → length (chip t) ≤ 20
+chip-few t = omega (arith, chip-length t)

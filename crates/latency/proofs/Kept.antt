@@ -83,8 +83,9 @@ distinct-flows n [] h j asked = let z : _≡_ {A = ℕ} 0 1 = cc in absurd (omeg
 distinct-flows n (g ∷ gs) h j asked =
     let parts = distinct-parts n g gs h in
     elim (or-cases (eqb j g) (among j gs) asked) [
-      inl here ↦ ap (is-flow n) (eqb-true j g here) ∙ parts .0
-    | inr later ↦ distinct-flows n gs (parts .2) j later ]
+      | inl here ↦ ap (is-flow n) (eqb-true j g here) ∙ parts .0
+      | inr later ↦ distinct-flows n gs (parts .2) j later
+    ]
 
 -- a set has no flow past its marks
 has-past : (set : List Bool) (i : ℕ) → length set ≤ i → getD set i false ≡ false
@@ -96,8 +97,9 @@ has-past (mark ∷ set) (suc i) h = has-past set i (omega arith)
 pub marks-among : (g : ℕ) (gs : List ℕ) → has (marks gs) g ≡ true → among g gs ≡ true
 marks-among zero gs h = let z : _≡_ {A = ℕ} 0 1 = cc in absurd (omega arith)
 marks-among (suc i) gs h = elim (cases-lt i 20) [
-      inl inside ↦ sym (has-marks (suc i) gs (omega arith) inside) ∙ h
-    | inr past ↦ let e : getD (marks gs) i false ≡ false = has-past (marks gs) i (omega (arith, marks-length gs)) in let z : _≡_ {A = ℕ} 0 1 = cc in absurd (omega arith) ]
+  | inl inside ↦ sym (has-marks (suc i) gs (omega arith) inside) ∙ h
+  | inr past ↦ let e : getD (marks gs) i false ≡ false = has-past (marks gs) i (omega (arith, marks-length gs)) in let z : _≡_ {A = ℕ} 0 1 = cc in absurd (omega arith)
+]
 
 -- the set of a proper list is within the flows
 pub marks-within : (n : ℕ) (gs : List ℕ) → distinct n gs ≡ true → within n (marks gs) ≡ true

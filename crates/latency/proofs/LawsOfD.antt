@@ -32,7 +32,6 @@ bound-D-members fs f above few asked =
     (λ t. sym (load-members fs (direct fs f) none-extra t (length fs) above few (proper-distinct (length fs) f above asked)))
 
 pub lawful-D : (fs : List FlowParameters) → 1 ≤ length fs → length fs ≤ 20 → Lawful (meaning-D fs)
-unfolding meaning-D
 lawful-D fs some few = record {
   some-flow = some;
   few-flows = few;

@@ -111,7 +111,6 @@ bound-J-is fs f above ok = ap (λ b. cond b (solution-J fs f (reverse above)) No
 
 -- in a list in which each flow has a bound under those before it, each has a solution
 passes-settled : (fs : List FlowParameters) (above levels : List ℕ) → all-settled fs (reverse above) ≡ true → Passes-under (meaning-J fs) above levels → all-settled fs (reverse (above ++ levels)) ≡ true
-unfolding meaning-J
 passes-settled fs above [] ok passes = rw append-nil ok
 passes-settled fs above (f ∷ levels) ok passes =
     let own : isSome (solution-J fs f (reverse above)) ≡ true = told-some (all-settled fs (reverse above)) (solution-J fs f (reverse above)) (passes .0) ok in
@@ -136,7 +135,6 @@ timely-J fs f above true = settled-timely fs f (delayed fs f above)
 timely-J fs f above false = tt
 
 pub lawful-J : (fs : List FlowParameters) → 1 ≤ length fs → length fs ≤ 20 → Lawful (meaning-J fs)
-unfolding meaning-J
 lawful-J fs some few = record {
   some-flow = some;
   few-flows = few;

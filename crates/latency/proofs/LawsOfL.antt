@@ -45,7 +45,6 @@ load-L-struck fs f t {fewer} {above} s =
     le-trans (load-more fs (counts-L fs f fewer) (counts-L fs f above) none-extra none-extra (counts-L-struck fs f s) (λ j. omega arith) t fewer) (load-struck fs (counts-L fs f above) none-extra t s)
 
 pub lawful-L : (fs : List FlowParameters) → 1 ≤ length fs → length fs ≤ 20 → Lawful (meaning-L fs)
-unfolding meaning-L
 lawful-L fs some few = record {
   some-flow = some;
   few-flows = few;

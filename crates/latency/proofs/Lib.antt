@@ -4,6 +4,7 @@ mod Walking
 mod Climb
 mod Kept
 mod Solved
+mod Asked
 mod Filling
 mod Sharers
 mod Sums

@@ -3,3 +3,4 @@ pub mod Interference
 pub mod Rules
 pub mod Tables
 pub mod Chips
+pub mod Promises

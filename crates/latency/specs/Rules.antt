@@ -57,13 +57,13 @@ abbrev pub ceiling-J : List FlowParameters → ℕ → List ℕ → Option ℕ
 ceiling-J fs f above = settled fs f (counted fs (direct fs f) (ceiling-extra fs f above) above)
 
 -- all answers of rule D; its floor and ceiling are the bound under the set's flows in any order
-unfoldable pub meaning-D : List FlowParameters → Meaning
+abbrev pub meaning-D : List FlowParameters → Meaning
 meaning-D fs = record { flows = length fs; deadline = λ f. flow fs f .deadline; label = λ f. flow fs f .label; bound = bound-D fs; floor = λ f set. bound-D fs f (members set); ceiling = λ f set. bound-D fs f (members set) }
 
 -- all answers of rule L; its floor and ceiling are the bound under the set's flows in any order
-unfoldable pub meaning-L : List FlowParameters → Meaning
+abbrev pub meaning-L : List FlowParameters → Meaning
 meaning-L fs = record { flows = length fs; deadline = λ f. flow fs f .deadline; label = λ f. flow fs f .label; bound = bound-L fs; floor = λ f set. bound-L fs f (members set); ceiling = λ f set. bound-L fs f (members set) }
 
 -- all answers of rule J; its floor is the bound of rule D
-unfoldable pub meaning-J : List FlowParameters → Meaning
+abbrev pub meaning-J : List FlowParameters → Meaning
 meaning-J fs = record { flows = length fs; deadline = λ f. flow fs f .deadline; label = λ f. flow fs f .label; bound = bound-J fs; floor = λ f set. bound-D fs f (members set); ceiling = λ f set. ceiling-J fs f (members set) }

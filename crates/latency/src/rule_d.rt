@@ -5,9 +5,17 @@ ghost use lib.ListN.{length};
 ghost use Rattle.rule.specs.FlowSets.{marks-of, members};
 ghost use Rattle.rule.specs.Lists.{is-flow, within};
 ghost use Rattle.latency.specs.Chips.{chip};
-ghost use Rattle.latency.specs.Rules.{bound-D};
+ghost use Rattle.latency.specs.Rules.{bound-D, meaning-D};
+ghost use Rattle.latency.specs.Interference.{flow};
+ghost use Rattle.latency.specs.Promises.{equation-D, Told};
+ghost use Rattle.rule.specs.Questions.{asked-bound};
 use crate::traffic::Traffic;
+use crate::traffic::set_of;
+use chip::Refusal;
 use rule::FlowSet;
+use rule::Rule;
+use rule::is_proper;
+use rule::is_proper_set;
 
 impl Traffic {
     // The bound of flow f under the flows of a set: they interfere without interference jitter.
@@ -16,5 +24,48 @@ impl Traffic {
         ensures { λ r. ⌜ r ≡ bound-D (chip (now (self .entry))) f (members (marks-of set)) ⌝ }
     {
         self.least(f, self.direct(f, set), &[0; 20])
+    }
+}
+
+// Rule D on a chip.
+#[derive(Drop)]
+pub struct RuleD {
+    traffic: Traffic,
+}
+
+pub impl Rule for RuleD as DirectRule {
+    ghost meaning = { λ s. meaning-D (chip (s .traffic)) };
+
+    fn flows(&self) -> u8 {
+        self.traffic.count()
+    }
+
+    fn deadline(&self, f: u8) -> Result<u32, Refusal> {
+        self.traffic.deadline(f)
+    }
+
+    fn label(&self, f: u8) -> Result<u16, Refusal> {
+        self.traffic.label(f)
+    }
+
+    fn bound(&self, f: u8, above: &[u8]) -> Result<Option<u32>, Refusal>
+        ensures asked { λ r. ⌜ r ≡ asked-bound (meaning-D (chip (now (self .entry) .traffic))) f (now (above .entry)) ⌝ }
+        ensures told { λ r. ⌜ Told (equation-D (chip (now (self .entry) .traffic)) f (now (above .entry))) (flow (chip (now (self .entry) .traffic)) f .deadline) r ⌝ }
+    {
+        if !is_proper(self.traffic.count(), f, above) {
+            return Err(Refusal::ImproperQuestion);
+        }
+        Ok(self.traffic.plain_bound(f, set_of(above)))
+    }
+
+    fn floor(&self, f: u8, others: FlowSet) -> Result<Option<u32>, Refusal> {
+        if !is_proper_set(self.traffic.count(), f, others) {
+            return Err(Refusal::ImproperQuestion);
+        }
+        Ok(self.traffic.plain_bound(f, others))
+    }
+
+    fn ceiling(&self, f: u8, others: FlowSet) -> Result<Option<u32>, Refusal> {
+        self.floor(f, others)
     }
 }

@@ -6,11 +6,14 @@ ghost use lib.ListN.{length};
 ghost use Rattle.std.specs.shelf.Lists.{kept-by};
 ghost use Rattle.rule.specs.FlowSets.{marks-of, members};
 ghost use Rattle.rule.specs.Lists.{is-flow, has, within, marks};
+ghost use Rattle.rule.specs.Meaning.{answer};
 ghost use Rattle.latency.specs.Chips.{chip};
 ghost use Rattle.latency.specs.Interference.{flow, share, direct};
 use crate::traffic::Traffic;
 use chip::FlowParameters;
+use chip::Refusal;
 use rule::FlowSet;
+use rule::is_flow;
 
 impl Traffic {
     // The number of flows.
@@ -28,6 +31,26 @@ impl Traffic {
         ensures times { λ r. ⌜ (1 ≤ r .latency) × (r .latency ≤ r .deadline) × (r .deadline ≤ r .period) × (r .period ≤ 1000000) × (r .jitter < r .period) ⌝ }
     {
         self.flows[f as usize - 1].parameters()
+    }
+
+    // The deadline of flow f; refuses a number that is no flow.
+    pub(crate) fn deadline(&self, f: u8) -> Result<u32, Refusal>
+        ensures { λ r. ⌜ r ≡ answer (is-flow (length (chip (now (self .entry)))) f) (flow (chip (now (self .entry))) f .deadline) ⌝ }
+    {
+        if !is_flow(self.count(), f) {
+            return Err(Refusal::ImproperQuestion);
+        }
+        Ok(self.flow(f).deadline)
+    }
+
+    // The label of flow f; refuses a number that is no flow.
+    pub(crate) fn label(&self, f: u8) -> Result<u16, Refusal>
+        ensures { λ r. ⌜ r ≡ answer (is-flow (length (chip (now (self .entry)))) f) (flow (chip (now (self .entry))) f .label) ⌝ }
+    {
+        if !is_flow(self.count(), f) {
+            return Err(Refusal::ImproperQuestion);
+        }
+        Ok(self.flow(f).label)
     }
 
     // The flows that share with flow f.

@@ -19,7 +19,7 @@ returns c =
     let near = marks-of (c .near .result) in
     let flows = within-flows n set (c .pre .1) in
     let kept : members (marks-of (c .and .result)) ≡ kept-by (direct (chip (c .args .self .now)) (c .args .f)) (members set) =
-        ap members (c .and .ensures)
-        ∙ both-kept set near (marks-of-length (c .args .set) ∙ sym (marks-of-length (c .near .result)))
-        ∙ kept-same (has near) (direct (chip (c .args .self .now)) (c .args .f)) (members set) (λ g asked. c .near .ensures g ∙ ap (λ b. b && share (chip (c .args .self .now)) g (c .args .f)) (flows g asked)) in
+    ap members (c .and .ensures)
+    ∙ both-kept set near (marks-of-length (c .args .set) ∙ sym (marks-of-length (c .near .result)))
+    ∙ kept-same (has near) (direct (chip (c .args .self .now)) (c .args .f)) (members set) (λ g asked. c .near .ensures g ∙ ap (λ b. b && share (chip (c .args .self .now)) g (c .args .f)) (flows g asked)) in
     record { value = kept; flows = kept-within n (direct (chip (c .args .self .now)) (c .args .f)) set (marks-of (c .and .result)) kept (c .pre .1) }
