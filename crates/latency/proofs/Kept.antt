@@ -9,11 +9,12 @@ use native.Mathlib.Nat.{add-zero}
 use lib.Dec.{eqb, leb}
 use lib.ListN.{length, getD}
 use Rattle.std.specs.shelf.Lists.{kept-by}
-use Rattle.std.proofs.shelf.Tests.{and-from, or-cases, or-left, or-right, le-leb, eqb-true, eq-eqb, cases-lt}
+use Rattle.std.proofs.shelf.Tests.{and-from, or-cases, or-left, or-right, le-leb, eqb-true, eq-eqb, cases-lt, or-from, ne-eqb}
 use Rattle.rule.specs.Lists.{is-flow, among, distinct, within-from, within, marks, has}
 use Rattle.rule.specs.FlowSets.{both, less, members-from, members}
 use Rattle.rule.proofs.Members.{has-marks, among-members, marks-length}
 use Rattle.rule.proofs.Distinct.{distinct-parts, flow-range}
+use Rattle.latency.specs.Interference.{any}
 use Rattle.latency.proofs.Walking.{Flows, within-flows}
 
 module _ (p : ℕ → Bool) where
@@ -108,3 +109,49 @@ marks-within n gs h = flows-within n (marks gs) (λ j asked. distinct-flows n gs
 -- what is kept of a set within the flows is within them
 pub kept-within : (n : ℕ) (p : ℕ → Bool) (set kept : List Bool) → members kept ≡ kept-by p (members set) → within n set ≡ true → within n kept ≡ true
 kept-within n p set kept e h = flows-within n kept (λ j asked. within-flows n set h j (kept-among p (members set) j (rw e at asked)))
+
+-- a flow is in the first set alone exactly if it is in the first and not in the second
+less-at : (set other : List Bool) (i : ℕ) → length set ≡ length other → getD (less set other) i false ≡ (getD set i false && not (getD other i false))
+less-at [] other i sized = refl
+less-at (mark ∷ set) [] i sized = absurd (omega arith)
+less-at (mark ∷ set) (also ∷ other) zero sized = refl
+less-at (mark ∷ set) (also ∷ other) (suc i) sized = less-at set other i (omega arith)
+
+pub has-less : (set other : List Bool) (g : ℕ) → length set ≡ length other → has (less set other) g ≡ (has set g && not (has other g))
+has-less set other zero sized = refl
+has-less set other (suc i) sized = less-at set other i sized
+
+-- what a test refuses is not kept
+kept-not : (p : ℕ → Bool) (g : ℕ) (gs : List ℕ) → p g ≡ false → among g (kept-by p gs) ≡ false
+kept-not p g [] e = refl
+kept-not p g (h ∷ gs) e = go (p h) refl (kept-not p g gs e)
+  where
+    go : (b : Bool) → p h ≡ b → among g (kept-by p gs) ≡ false → among g (cond b (h ∷ kept-by p gs) (kept-by p gs)) ≡ false
+    go true q rest = or-from (eqb g h) (among g (kept-by p gs)) (ne-eqb g h (λ s. let z : true ≡ false = sym q ∙ ap p (sym s) ∙ e in let y : _≡_ {A = ℕ} 0 1 = cc in omega arith)) rest
+    go false q rest = rest
+
+-- what passes and stands in the list is kept
+kept-yes : (p : ℕ → Bool) (g : ℕ) (gs : List ℕ) → p g ≡ true → among g gs ≡ true → among g (kept-by p gs) ≡ true
+kept-yes p g [] e h = h
+kept-yes p g (x ∷ gs) e h = go (p x) refl (or-cases (eqb g x) (among g gs) h) (λ later. kept-yes p g gs e later)
+  where
+    go : (b : Bool) → p x ≡ b → (eqb g x ≡ true) ⊎ (among g gs ≡ true) → (among g gs ≡ true → among g (kept-by p gs) ≡ true) → among g (cond b (x ∷ kept-by p gs) (kept-by p gs)) ≡ true
+    go true q (inl here) rest = or-left (eqb g x) (among g (kept-by p gs)) here
+    go true q (inr later) rest = or-right (eqb g x) (among g (kept-by p gs)) (rest later)
+    go false q (inl here) rest = let z : true ≡ false = sym e ∙ ap p (eqb-true g x here) ∙ q in let y : _≡_ {A = ℕ} 0 1 = cc in absurd (omega arith)
+    go false q (inr later) rest = rest later
+
+-- a flow of a list is kept exactly if it passes the test
+pub among-kept : (p : ℕ → Bool) (gs : List ℕ) (g : ℕ) → among g gs ≡ true → among g (kept-by p gs) ≡ p g
+among-kept p gs g asked = go (p g) refl
+  where
+    go : (b : Bool) → p g ≡ b → among g (kept-by p gs) ≡ b
+    go true e = kept-yes p g gs e asked
+    go false e = kept-not p g gs e
+
+-- some kept flow has a property exactly if some flow that passes has it
+pub any-kept : (p q : ℕ → Bool) (gs : List ℕ) → any p (kept-by q gs) ≡ any (λ g. q g && p g) gs
+any-kept p q [] = refl
+any-kept p q (g ∷ gs) = elim (q g) as (λ b. any p (cond b (g ∷ kept-by q gs) (kept-by q gs)) ≡ ((b && p g) || any (λ h. q h && p h) gs)) [
+      true ↦ ap (λ b. p g || b) (any-kept p q gs)
+    | false ↦ any-kept p q gs ]

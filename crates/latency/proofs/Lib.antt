@@ -5,6 +5,7 @@ mod Climb
 mod Kept
 mod Solved
 mod Asked
+mod Linked
 mod Filling
 mod Sharers
 mod Sums
