@@ -4,7 +4,6 @@ use lib.ListN.{length}
 use Rattle.rule.specs.declared.flow_set.FlowSet.{FlowSet}
 use Rattle.rule.specs.FlowSets.{marks-of}
 use Rattle.rule.proofs.Digits.{digits-length}
-use Rattle.rule.proofs.Members.{marks-push}
 
 -- a set has 20 marks
 pub marks-of-length : (s : FlowSet) → length (marks-of s) ≡ 20

@@ -5,13 +5,15 @@ use mathlib.Core.List.{List, [], _∷_, _++_}
 use Prim.Native.Nat.{ℕ, zero, suc, _+_, _-_, _≤_, _<_}
 use native.Mathlib.Omega.{arith}
 use native.Mathlib.Nat.{add-suc}
+use lib.Dec.{ltb}
 use lib.ListN.{length, getD, set, take, drop, replicate}
 use Rattle.std.specs.declared.option.Option.{Option}
 use Rattle.std.specs.declared.option.Option.the-variants.{Some, None}
 use Rattle.std.specs.declared.result.Result.{Result}
 use Rattle.std.specs.declared.result.Result.the-variants.{Ok}
 use Rattle.chip.specs.declared.refusal.Refusal.{Refusal}
-use Rattle.std.proofs.shelf.Lists.{at-drop-more, at-drop-all, take-more, append-assoc, append-nil, length-push, set-at}
+use Rattle.std.proofs.shelf.Tests.{cond-true, lt-ltb}
+use Rattle.std.proofs.shelf.Lists.{drop-more, drop-all, at-drop-more, at-drop-all, take-more, append-assoc, append-nil, length-push, set-at}
 use Rattle.rule.specs.declared.bounds.Bounds.{Bounds}
 use Rattle.rule.specs.Meaning.{Meaning, answer, told, leading}
 use Rattle.rule.specs.Questions.{table, one-more, asked-bound, asked-bounds}
@@ -24,7 +26,9 @@ padding k h = let e : 20 - k ≡ suc (20 - (k + 1)) = omega arith in ap (λ (x :
 
 -- one more bound after a table
 pub table-more : (ts : List ℕ) (r : ℕ) → length ts < 20 → one-more (table ts) r ≡ table (ts ++ r ∷ [])
-table-more ts r h = ap₂ (λ (n : ℕ) (xs : List ℕ). record { count = n; ticks = xs }) (sym (length-push ts r)) ticks
+table-more ts r h =
+    cond-true (ltb (length ts) 20) (record { count = length ts + 1; ticks = set (ts ++ replicate (20 - length ts) 0) (length ts) r }) (table ts) (lt-ltb (length ts) 20 h)
+    ∙ ap₂ (λ (n : ℕ) (xs : List ℕ). record { count = n; ticks = xs }) (sym (length-push ts r)) ticks
   where
     ticks : set (ts ++ replicate (20 - length ts) 0) (length ts) r ≡ (ts ++ r ∷ []) ++ replicate (20 - length (ts ++ r ∷ [])) 0
     ticks =
@@ -97,3 +101,50 @@ module _ (m : Meaning) (list : List ℕ) (s : Sound m list) where
   -- the table of all its leading bounds
   pub all-told : (told : Bounds) → told ≡ table (leading m [] list) → Ok told ≡ asked-bounds m list
   all-told told e = ap Ok e ∙ sym (replied (distinct (m .flows) list) (table (leading m [] list)) (s .once))
+
+-- the flows that leading bounds are told of
+module _ (m : Meaning) where
+  told-most : (o : Option ℕ) (rest : List ℕ) → length (told o rest) ≤ suc (length rest)
+  told-most None rest = omega arith
+  told-most (Some r) rest = omega arith
+
+  pub leading-most : (above list : List ℕ) → length (leading m above list) ≤ length list
+  leading-most above [] = omega arith
+  leading-most above (f ∷ fs) =
+      let h = told-most (m .bound f above) (leading m (above ++ f ∷ []) fs) in
+      let t = leading-most (above ++ f ∷ []) fs in
+      omega arith
+
+  told-drop : (o : Option ℕ) (rest : List ℕ) (k : ℕ) → suc k ≤ length (told o rest) → drop (suc k) (told o rest) ≡ drop k rest
+  told-drop None rest k h = absurd (omega arith)
+  told-drop (Some r) rest k h = refl
+
+  leading-from : (above list : List ℕ) (k : ℕ) → k ≤ length (leading m above list) → drop k (leading m above list) ≡ leading m (above ++ take k list) (drop k list)
+  leading-from above list zero h = ap (λ (xs : List ℕ). leading m xs list) (sym (append-nil above))
+  leading-from above [] (suc k) h = absurd (omega arith)
+  leading-from above (f ∷ fs) (suc k) h =
+      let t = told-most (m .bound f above) (leading m (above ++ f ∷ []) fs) in
+      told-drop (m .bound f above) (leading m (above ++ f ∷ []) fs) k h
+      ∙ leading-from (above ++ f ∷ []) fs k (omega arith)
+      ∙ ap (λ (xs : List ℕ). leading m xs (drop k fs)) (append-assoc above (f ∷ []) (take k fs))
+
+  some-told : (o : Option ℕ) (rest : List ℕ) (r : ℕ) (rs : List ℕ) → told o rest ≡ r ∷ rs → o ≡ Some r
+  some-told None rest r rs e = let z : _≡_ {A = ℕ} 0 1 = cc in absurd (omega arith)
+  some-told (Some s) rest r rs e = cc
+
+  none-told : (o : Option ℕ) (rest : List ℕ) → told o rest ≡ [] → o ≡ None
+  none-told None rest e = refl
+  none-told (Some s) rest e = let z : _≡_ {A = ℕ} 0 1 = cc in absurd (omega arith)
+
+  -- the flow at k has the bound that is told there
+  pub leading-at : (list : List ℕ) (k : ℕ) → k < length (leading m [] list) → m .bound (getD list k 0) (take k list) ≡ Some (getD (leading m [] list) k 0)
+  leading-at list k h =
+      some-told (m .bound (getD list k 0) (take k list)) _ _ (drop (k + 1) (leading m [] list))
+      (sym (at-drop-more (leading m (take k list)) list k 0 (omega (arith, leading-most [] list)))
+      ∙ sym (leading-from [] list k (omega arith)) ∙ drop-more (leading m [] list) k 0 h)
+
+  -- the flow after the last of them has none
+  pub leading-stops : (list : List ℕ) (k : ℕ) → k ≡ length (leading m [] list) → k < length list → m .bound (getD list k 0) (take k list) ≡ None
+  leading-stops list k e h =
+      none-told (m .bound (getD list k 0) (take k list)) _
+      (sym (at-drop-more (leading m (take k list)) list k 0 h) ∙ sym (leading-from [] list k (omega arith)) ∙ drop-all k (leading m [] list) (omega arith))

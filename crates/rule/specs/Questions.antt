@@ -1,9 +1,10 @@
 -- The reply of a rule to each question, by its meaning: the answer to a proper one, refusal of any other. Assumes nothing.
 --   asked-deadline, asked-label, asked-bound, asked-floor, asked-ceiling    one flow
 --   asked-bounds                                                           a list of flows in one go
-use mathlib.Core.Bool.{Bool}
+use mathlib.Core.Bool.{Bool, cond}
 use mathlib.Core.List.{List, [], _++_}
 use Prim.Native.Nat.{ℕ, _+_, _-_}
+use lib.Dec.{ltb}
 use lib.ListN.{length, replicate, set}
 use Rattle.std.specs.declared.option.Option.{Option}
 use Rattle.std.specs.declared.result.Result.{Result}
@@ -36,9 +37,9 @@ asked-ceiling m f set = answer (proper-set (m .flows) f set) (m .ceiling f set)
 abbrev pub table : List ℕ → Bounds
 table ticks = record { count = length ticks; ticks = ticks ++ replicate (20 - length ticks) 0 }
 
--- bounds with one more after them
+-- bounds with one more after them; 20 bounds take no more
 abbrev pub one-more : Bounds → ℕ → Bounds
-one-more told r = record { count = told .count + 1; ticks = set (told .ticks) (told .count) r }
+one-more told r = cond (ltb (told .count) 20) (record { count = told .count + 1; ticks = set (told .ticks) (told .count) r }) told
 
 -- the bounds of a list of flows, highest first, each under those before it, up to the first flow that has none
 abbrev pub asked-bounds : Meaning → List ℕ → Result Bounds Refusal

@@ -1,9 +1,10 @@
 // The bounds of a list of flows, told in one go.
 ghost use mathlib.Core.Path.{_≡_};
 ghost use mathlib.Core.List.{[]};
-ghost use Prim.Native.Nat.{_<_, _≤_};
+ghost use Prim.Native.Nat.{_≤_};
 ghost use lib.ListN.{length, take};
 ghost use Rattle.rule.specs.Questions.{table, one-more};
+use crate::flow_set::MOST_FLOWS;
 
 // How many leading flows of the list have a bound, and these bounds in ticks, padded with 0 to 20 entries.
 #[derive(Clone, Copy)]
@@ -23,14 +24,15 @@ impl Bounds {
         }
     }
 
-    // The bounds with one more after them.
-    pub(crate) fn more(self, ticks: u32) -> Bounds
-        requires { ⌜ self .count < 20 ⌝ }
+    // The bounds with one more after them; 20 bounds take no more.
+    pub fn more(self, ticks: u32) -> Bounds
         ensures { λ r. ⌜ r ≡ one-more self ticks ⌝ }
     {
         let mut told = self;
-        told.ticks[self.count as usize] = ticks;
-        told.count += 1;
+        if told.count < MOST_FLOWS {
+            told.ticks[told.count as usize] = ticks;
+            told.count += 1;
+        }
         told
     }
 }

@@ -1,6 +1,7 @@
 // One flow and a set: whether it is in the set, the set with it and without it, and the smallest flow taken out.
 ghost use mathlib.Core.Path.{_≡_};
 ghost use mathlib.Core.Bool.{true, false};
+ghost use Prim.Native.Nat.{_^_, _<_};
 ghost use Rattle.rule.specs.Lists.{has};
 ghost use Rattle.rule.specs.FlowSets.{marks-of, digit-of, put, Popped};
 use crate::flow_set::FlowSet;
@@ -8,7 +9,8 @@ use crate::flow_set::MOST_FLOWS;
 
 // The number whose one binary digit marks flow g; 0 if there is no flow g.
 fn digit_of(g: u8) -> u32
-    ensures { λ r. ⌜ r ≡ digit-of 20 g ⌝ }
+    ensures value { λ r. ⌜ r ≡ digit-of 20 g ⌝ }
+    ensures small { λ r. ⌜ r < 2 ^ 20 ⌝ }
 {
     if g == 0 || g > MOST_FLOWS {
         return 0;

@@ -15,6 +15,17 @@ impl FlowSet {
         FlowSet { bits: 0 }
     }
 
+    // The flows that stand in a list; a number outside 1 to 20 is none.
+    pub fn of(list: &[u8]) -> FlowSet
+        ensures { λ r. ⌜ marks-of r ≡ marks (now (list .entry)) ⌝ }
+    {
+        let mut set = FlowSet::none();
+        for g in list {
+            set = set.with(*g);
+        }
+        set
+    }
+
     // The flows up to n.
     pub fn first(n: u8) -> FlowSet
         ensures { λ r. ⌜ marks-of r ≡ first-flows n ⌝ }

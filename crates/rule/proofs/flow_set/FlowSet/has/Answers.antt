@@ -4,4 +4,4 @@ use Rattle.rule.proofs.flow_set.FlowSet.has.Needs as need
 
 pub returns : need.returns
 unfolding marks-of
-returns c = rw (c .digit-of .ensures) (digits-has 20 (c .args .self .bits) (c .args .g) (c .args .self .small))
+returns c = rw (c .digit-of .ensures .value) (digits-has 20 (c .args .self .bits) (c .args .g) (c .args .self .small))

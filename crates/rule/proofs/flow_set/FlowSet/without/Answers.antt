@@ -8,4 +8,4 @@ sub-result c = and-le-l _ _
 
 pub returns : need.returns
 unfolding marks-of
-returns c = rw (c .digit-of .ensures) (digits-without 20 (c .args .self .bits) (c .args .g))
+returns c = rw (c .digit-of .ensures .value) (digits-without 20 (c .args .self .bits) (c .args .g))

@@ -1,11 +1,9 @@
-use mathlib.Core.Path.{_≡_, sym, ap, _∙_}
-use Prim.Native.Nat.{ℕ, _≤_, _<_, _+_}
+use mathlib.Core.Path.{_≡_}
+use Prim.Native.Nat.{ℕ}
 use native.Mathlib.Omega.{arith}
-use lib.ListN.{length, take, getD}
+use lib.ListN.{take, getD}
 use Rattle.std.specs.declared.option.Option.the-variants.{Some, None}
-use Rattle.rule.specs.declared.bounds.Bounds.{Bounds}
-use Rattle.rule.specs.Questions.{one-more}
-use Rattle.rule.proofs.Told.{sound, list-short, bound-told, all-told, telling-more, telling-ends, telling-all, Telling}
+use Rattle.rule.proofs.Told.{sound, list-short, bound-told, all-told, telling-more, telling-ends, telling-all}
 use Rattle.rule.proofs.questions.Rule.bounds.Needs as need
 
 pub returns-in-Break-ticks : need.returns-in-Break-ticks
@@ -17,12 +15,6 @@ returns-in-Break-ticks g c =
     let w = c .in-Break-ticks .was tt in
     let z : _≡_ {A = ℕ} 0 1 = cc in
     absurd (omega arith)
-
-pub more-told-requires : need.more-told-requires
-more-told-requires g c κs =
-    let xs = c .args .list .now in
-    let s = sound xs (g .Self·Rule·met .lawful (c .args .self .now)) (c .flows .ensures) (c .if-not-is-distinct .ensures tt) in
-    omega (arith, ap (λ (b : Bounds). b .count) (c .loop-i .inv .held), c .loop-i .inv .each, list-short (g .Self·Rule .meaning (c .args .self .now)) xs s)
 
 pub returns-in-None : need.returns-in-None
 returns-in-None g c =
