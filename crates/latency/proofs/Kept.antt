@@ -153,5 +153,6 @@ among-kept p gs g asked = go (p g) refl
 pub any-kept : (p q : ℕ → Bool) (gs : List ℕ) → any p (kept-by q gs) ≡ any (λ g. q g && p g) gs
 any-kept p q [] = refl
 any-kept p q (g ∷ gs) = elim (q g) as (λ b. any p (cond b (g ∷ kept-by q gs) (kept-by q gs)) ≡ ((b && p g) || any (λ h. q h && p h) gs)) [
-      true ↦ ap (λ b. p g || b) (any-kept p q gs)
-    | false ↦ any-kept p q gs ]
+  | true ↦ ap (λ b. p g || b) (any-kept p q gs)
+  | false ↦ any-kept p q gs
+]

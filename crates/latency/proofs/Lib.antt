@@ -6,6 +6,7 @@ mod Kept
 mod Solved
 mod Asked
 mod Linked
+mod Pass
 mod Filling
 mod Sharers
 mod Sums

@@ -10,10 +10,11 @@ ghost use Rattle.latency.specs.Interference.{flow};
 ghost use Rattle.latency.specs.Promises.{equation-D, Told};
 ghost use Rattle.rule.specs.Questions.{asked-bound};
 use crate::traffic::Traffic;
-use crate::traffic::set_of;
 use chip::Refusal;
+use rule::Bounds;
 use rule::FlowSet;
 use rule::Rule;
+use rule::is_distinct;
 use rule::is_proper;
 use rule::is_proper_set;
 
@@ -55,7 +56,7 @@ pub impl Rule for RuleD as DirectRule {
         if !is_proper(self.traffic.count(), f, above) {
             return Err(Refusal::ImproperQuestion);
         }
-        Ok(self.traffic.plain_bound(f, set_of(above)))
+        Ok(self.traffic.plain_bound(f, FlowSet::of(above)))
     }
 
     fn floor(&self, f: u8, others: FlowSet) -> Result<Option<u32>, Refusal> {
@@ -67,5 +68,21 @@ pub impl Rule for RuleD as DirectRule {
 
     fn ceiling(&self, f: u8, others: FlowSet) -> Result<Option<u32>, Refusal> {
         self.floor(f, others)
+    }
+
+    fn bounds(&self, list: &[u8]) -> Result<Bounds, Refusal> {
+        if !is_distinct(self.traffic.count(), list) {
+            return Err(Refusal::ImproperQuestion);
+        }
+        let mut told = Bounds::none();
+        let mut above = FlowSet::none();
+        for f in list {
+            match self.traffic.plain_bound(*f, above) {
+                Some(ticks) => told = told.more(ticks),
+                None => return Ok(told),
+            }
+            above = above.with(*f);
+        }
+        Ok(told)
     }
 }

@@ -11,7 +11,6 @@ ghost use Rattle.latency.specs.Interference.{flow};
 ghost use Rattle.latency.specs.Promises.{equation-L, Told};
 ghost use Rattle.latency.specs.Rules.{counts-L, bound-L, meaning-L};
 use crate::traffic::Traffic;
-use crate::traffic::set_of;
 use chip::Refusal;
 use rule::FlowSet;
 use rule::Rule;

@@ -13,8 +13,6 @@ mod asking;
 mod making;
 mod solving;
 
-pub(crate) use asking::set_of;
-
 // A chip of 1 to 20 flows; the set of a flow holds the flows that share with it.
 #[derive(Clone, Copy)]
 pub struct Traffic {

@@ -61,5 +61,5 @@ reserve-lawful t m l =
       ceiling-timely = λ f set p. reserved-timely t (m .deadline f) (m .ceiling f set);
       struck = λ f fewer above s p k e. reserved-later t (m .deadline f) (m .bound f above) (m .bound f fewer) s e (λ r q. l .struck f fewer above r p k q);
       floored = λ f above s p e. reserved-later t (m .deadline f) (m .bound f above) (m .floor f _) s e (λ r q. l .floored f above r p q);
-      ceiled = λ f above s p k e. reserved-later t (m .deadline f) (m .ceiling f _) (m .bound f above) s e (λ r q. l .ceiled f above r p (passes-below t m [] above k) q)
+      ceiled = λ f above s p k e. reserved-later t (m .deadline f) (m .ceiling f _) (m .bound f above) s e (λ r q. l .ceiled f above r p (passes-below t m [] above k) q);
     }

@@ -1,8 +1,8 @@
 // The reserve layer: a rule whose bounds, floors and ceilings are those of the rule below with ticks added.
 ghost use mathlib.Core.Path.{_≡_};
 ghost use Rattle.layers.specs.Reserves.{with-reserve};
-use chip::Refusal;
 use crate::ticks::Ticks;
+use chip::Refusal;
 use rule::FlowSet;
 use rule::Rule;
 

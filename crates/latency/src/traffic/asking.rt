@@ -5,7 +5,7 @@ ghost use Prim.Native.Nat.{ℕ, _≤_, _<_};
 ghost use lib.ListN.{length};
 ghost use Rattle.std.specs.shelf.Lists.{kept-by};
 ghost use Rattle.rule.specs.FlowSets.{marks-of, members};
-ghost use Rattle.rule.specs.Lists.{is-flow, has, within, marks};
+ghost use Rattle.rule.specs.Lists.{is-flow, has, within};
 ghost use Rattle.rule.specs.Meaning.{answer};
 ghost use Rattle.latency.specs.Chips.{chip};
 ghost use Rattle.latency.specs.Interference.{flow, share, direct};
@@ -69,15 +69,4 @@ impl Traffic {
     {
         set.and(self.near(f))
     }
-}
-
-// The set of the flows of a list.
-pub(crate) fn set_of(list: &[u8]) -> FlowSet
-    ensures { λ r. ⌜ marks-of r ≡ marks (now (list .entry)) ⌝ }
-{
-    let mut set = FlowSet::none();
-    for g in list {
-        set = set.with(*g);
-    }
-    set
 }

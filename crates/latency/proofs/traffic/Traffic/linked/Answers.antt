@@ -29,12 +29,13 @@ loop-k-again c =
     let k = c .in-Some .k in
     let before = members (marks-of (c .loop-k .left)) in
     let after = members (marks-of (c .pop .last .self)) in
-    let e = c .in-Some .ensures tt .0 in
-    ( (λ g asked.
-        ap (λ s. apart-at fs s after g) (c .less-apart-in-Some .ensures)
-        ∙ apart-more fs (marks-of (c .loop-k .apart)) (marks-of (c .near .result)) before after k g (sized (c .loop-k .apart) (c .near .result)) e (c .near .ensures g ∙ ap (λ b. b && share fs g k) asked)
-        ∙ c .loop-k .inv .0 g asked)
-    , flows-tail (length fs) k before after e (c .loop-k .inv .1))
+    let e = c .in-Some .ensures tt .0 in (
+      (λ g asked.
+          ap (λ s. apart-at fs s after g) (c .less-apart-in-Some .ensures)
+          ∙ apart-more fs (marks-of (c .loop-k .apart)) (marks-of (c .near .result)) before after k g (sized (c .loop-k .apart) (c .near .result)) e (c .near .ensures g ∙ ap (λ b. b && share fs g k) asked)
+          ∙ c .loop-k .inv .0 g asked),
+      flows-tail (length fs) k before after e (c .loop-k .inv .1),
+    )
 
 pub returns : need.returns
 returns c =
@@ -43,7 +44,7 @@ returns c =
     let near = marks-of (c .direct-direct .result) in
     let apart = marks-of (c .loop-k .apart) in
     let rest : (g : ℕ) → is-flow (length fs) g ≡ true → has apart g ≡ apart-at fs (less set near) (members near) g =
-        λ g asked. apart-done fs apart (members (marks-of (c .loop-k .left))) g (c .in-rest .ensures tt .0) ∙ c .loop-k .inv .0 g asked ∙ ap (λ s. apart-at fs s (members near) g) (c .less-apart .ensures) in
+    λ g asked. apart-done fs apart (members (marks-of (c .loop-k .left))) g (c .in-rest .ensures tt .0) ∙ c .loop-k .inv .0 g asked ∙ ap (λ s. apart-at fs s (members near) g) (c .less-apart .ensures) in
     let value : members (marks-of (c .less .result)) ≡ kept-by (counts-L fs (c .args .f) (members set)) (members set) =
-        ap members (c .less .ensures) ∙ linked-kept fs (c .args .f) (length fs) set near apart (sized (c .args .set) (c .direct-direct .result)) (sized (c .args .set) (c .loop-k .apart)) (c .pre .1) (c .direct-direct .ensures .value) rest in
+    ap members (c .less .ensures) ∙ linked-kept fs (c .args .f) (length fs) set near apart (sized (c .args .set) (c .direct-direct .result)) (sized (c .args .set) (c .loop-k .apart)) (c .pre .1) (c .direct-direct .ensures .value) rest in
     record { value = value; flows = kept-within (length fs) (counts-L fs (c .args .f) (members set)) set (marks-of (c .less .result)) value (c .pre .1) }
