@@ -25,7 +25,7 @@ counts-L-members fs f above few asked =
     fun-ext (λ j. ap (λ b. direct fs f j || (b && not (share fs j f))) (sym (any-members (λ k. direct fs f k && share fs j k) (length fs) above few (proper-distinct (length fs) f above asked))))
 
 -- the bound under a list is the bound under its set
-bound-L-members : (fs : List FlowParameters) (f : ℕ) (above : List ℕ) → length fs ≤ 20 → proper (length fs) f above ≡ true → bound-L fs f (members (marks above)) ≡ bound-L fs f above
+pub bound-L-members : (fs : List FlowParameters) (f : ℕ) (above : List ℕ) → length fs ≤ 20 → proper (length fs) f above ≡ true → bound-L fs f (members (marks above)) ≡ bound-L fs f above
 bound-L-members fs f above few asked =
     ap (λ counts. settled fs f (counted fs counts none-extra (members (marks above)))) (counts-L-members fs f above few asked)
     ∙ settled-same fs f (counted fs (counts-L fs f above) none-extra (members (marks above))) (counted fs (counts-L fs f above) none-extra above)
