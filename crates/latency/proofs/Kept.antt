@@ -11,7 +11,7 @@ use lib.ListN.{length, getD}
 use Rattle.std.specs.shelf.Lists.{kept-by}
 use Rattle.std.proofs.shelf.Tests.{and-from, or-cases, or-left, or-right, le-leb, eqb-true, eq-eqb, cases-lt, or-from, ne-eqb}
 use Rattle.rule.specs.Lists.{is-flow, among, distinct, within-from, within, marks, has}
-use Rattle.rule.specs.FlowSets.{both, less, members-from, members}
+use Rattle.rule.specs.FlowSets.{both, less, empty, members-from, members}
 use Rattle.rule.proofs.Members.{has-marks, among-members, marks-length}
 use Rattle.rule.proofs.Distinct.{distinct-parts, flow-range}
 use Rattle.latency.specs.Interference.{any}
@@ -156,3 +156,30 @@ any-kept p q (g ∷ gs) = elim (q g) as (λ b. any p (cond b (g ∷ kept-by q gs
   | true ↦ ap (λ b. p g || b) (any-kept p q gs)
   | false ↦ any-kept p q gs
 ]
+
+-- tests that agree on the flows of a list hold of some alike
+pub any-same : (p q : ℕ → Bool) (gs : List ℕ) → ((g : ℕ) → among g gs ≡ true → p g ≡ q g) → any p gs ≡ any q gs
+any-same p q [] same = refl
+any-same p q (g ∷ gs) same =
+    ap (λ b. b || any p gs) (same g (or-left (eqb g g) (among g gs) (eq-eqb g g refl)))
+    ∙ ap (λ b. q g || b) (any-same p q gs (λ h asked. same h (or-right (eqb h g) (among h gs) asked)))
+
+-- a set is empty exactly if it has no member
+empty-from : (i : ℕ) (set : List Bool) → not (empty set) ≡ any (λ g. true) (members-from i set)
+empty-from i [] = refl
+empty-from i (true ∷ set) = refl
+empty-from i (false ∷ set) = empty-from (suc i) set
+
+-- a flow is in a set, also in a second, and not in a third
+pub some-in-both-not : (set near far : List Bool) → length set ≡ length near → length (both set near) ≡ length far → not (empty (less (both set near) far)) ≡ any (λ g. has near g && not (has far g)) (members set)
+some-in-both-not set near far sized also =
+    empty-from 1 (less (both set near) far)
+    ∙ ap (any (λ g. true)) (less-kept (both set near) far also)
+    ∙ any-kept (λ g. true) (λ g. not (has far g)) (members (both set near))
+    ∙ ap (any (λ g. not (has far g) && true)) (both-kept set near sized)
+    ∙ any-kept (λ g. not (has far g) && true) (has near) (members set)
+    ∙ any-same (λ g. has near g && (not (has far g) && true)) (λ g. has near g && not (has far g)) (members set) (λ g asked. ap (λ b. has near g && b) (drop-true (not (has far g))))
+  where
+    drop-true : (b : Bool) → (b && true) ≡ b
+    drop-true true = refl
+    drop-true false = refl

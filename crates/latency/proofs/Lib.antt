@@ -7,6 +7,7 @@ mod Solved
 mod Asked
 mod Linked
 mod Pass
+mod Jitters
 mod Filling
 mod Sharers
 mod Sums

@@ -26,7 +26,7 @@ pub solved : (fs : List FlowParameters) (f : ℕ) (set kept : List Bool) (counts
 solved fs f set kept counts table extra e same =
     ap (settled fs f) (interferers-same fs (of-flow table) extra (members kept) same ∙ ap (interferers fs extra) e)
 
-zeros : (k i : ℕ) → _≡_ {A = ℕ} (getD (replicate k 0) i 0) 0
+pub zeros : (k i : ℕ) → _≡_ {A = ℕ} (getD (replicate k 0) i 0) 0
 zeros zero i = refl
 zeros (suc k) zero = refl
 zeros (suc k) (suc i) = zeros k i

@@ -1,6 +1,8 @@
 // Latency rules of the mesh chip: the least solution of a latency's equation, and the rules D, J and L.
 mod rule_d;
 mod rule_l;
+mod settled;
+mod settling;
 mod traffic;
 
 ghost use Prim.Native.Nat.{ℕ, _≤_};
