@@ -50,6 +50,13 @@ period-some t j asked =
     let own : Flow = getD (t .flows) (j - 1) x in
     omega (arith, ap (λ p. p .period) (chip-flow t j x asked), own .times)
 
+-- a flow of a chip has its deadline within the longest period
+pub deadline-few : (t : Traffic) (f : ℕ) → is-flow (length (chip t)) f ≡ true → flow (chip t) f .deadline ≤ 1000000
+deadline-few t f asked =
+    let x : Flow = some-flow (t .flows) (omega arith) in
+    let own : Flow = getD (t .flows) (f - 1) x in
+    omega (arith, ap (λ p. p .deadline) (chip-flow t f x asked), own .times)
+
 -- nothing below r solves r = g r, and g asks for at least r
 abbrev pub Below : (ℕ → ℕ) → ℕ → Type 0
 Below g r = (r ≤ g r) × ((s : ℕ) → s < r → s ≡ g s → ⊥)

@@ -84,3 +84,8 @@ only g limit None None h k = refl
 pub timely : (g : ℕ → ℕ) (limit : ℕ) (o : Option ℕ) → Least g limit o → In-time o limit
 timely g limit (Some r) h = h .within
 timely g limit None h = tt
+
+-- in time for a limit is in time for a later one
+pub in-time : (o : Option ℕ) (limit later : ℕ) → limit ≤ later → In-time o limit → In-time o later
+in-time (Some r) limit later h k = omega arith
+in-time None limit later h k = tt

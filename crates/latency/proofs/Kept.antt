@@ -79,7 +79,7 @@ flows-within-from n i (false ∷ set) flows = flows-within-from n (suc i) set fl
 pub flows-within : (n : ℕ) (set : List Bool) → Flows n (members set) → within n set ≡ true
 flows-within n set flows = flows-within-from n 1 set flows
 
-distinct-flows : (n : ℕ) (gs : List ℕ) → distinct n gs ≡ true → Flows n gs
+pub distinct-flows : (n : ℕ) (gs : List ℕ) → distinct n gs ≡ true → Flows n gs
 distinct-flows n [] h j asked = let z : _≡_ {A = ℕ} 0 1 = cc in absurd (omega arith)
 distinct-flows n (g ∷ gs) h j asked =
     let parts = distinct-parts n g gs h in

@@ -35,11 +35,11 @@ some-no-later (Some s) r h = refl
 some-no-later None r h = absurd h
 
 -- the interference jitter of flow j under those above it
-abbrev jitter-J : List FlowParameters → ℕ → ℕ → List ℕ → ℕ
+abbrev pub jitter-J : List FlowParameters → ℕ → ℕ → List ℕ → ℕ
 jitter-J fs f j above = cond (disturbed fs f above j) (lateness fs j (solution-J fs j above)) 0
 
 -- what rule J counts of flow j, put before the rest
-load-delayed : (fs : List FlowParameters) (f j t : ℕ) (above : List ℕ) → load (delayed fs f (j ∷ above)) t ≡ cond (direct fs f j) (taken (interferer fs j (jitter-J fs f j above)) t) 0 + load (delayed fs f above) t
+pub load-delayed : (fs : List FlowParameters) (f j t : ℕ) (above : List ℕ) → load (delayed fs f (j ∷ above)) t ≡ cond (direct fs f j) (taken (interferer fs j (jitter-J fs f j above)) t) 0 + load (delayed fs f above) t
 unfolding delayed
 load-delayed fs f j t above = load-front (direct fs f j) (interferer fs j (jitter-J fs f j above)) (delayed fs f above) t
 

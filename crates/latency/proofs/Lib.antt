@@ -8,6 +8,7 @@ mod Asked
 mod Linked
 mod Pass
 mod Jitters
+mod Delayed
 mod Filling
 mod Sharers
 mod Sums

@@ -6,6 +6,7 @@ ghost use Prim.Native.Nat.{ℕ, _-_, _≤_};
 ghost use lib.ListN.{length, set};
 ghost use Rattle.rule.specs.FlowSets.{marks-of, members, put};
 ghost use Rattle.rule.specs.Lists.{is-flow, within, among, distinct, proper, marks};
+ghost use Rattle.rule.specs.Meaning.{In-time};
 ghost use Rattle.rule.specs.Questions.{one-more, table};
 ghost use Rattle.latency.specs.Chips.{chip};
 ghost use Rattle.latency.specs.Interference.{disturbed};
@@ -80,5 +81,15 @@ impl Traffic {
             extra[j as usize - 1] = self.jitter(settled, f, j);
         }
         extra
+    }
+
+    // The solution of flow f under the flows settled so far.
+    fn under(&self, settled: &Settled, f: u8) -> Option<u32>
+        requires { ⌜ is-flow (length (chip (now self))) f ≡ true ⌝ ∗ ⌜ Ready (length (chip (now self))) (now settled) ⌝ }
+        ensures value { λ r. ⌜ ((above : List ℕ) → proper (length (chip (now (self .entry)))) f above ≡ true → marks-of (now (settled .entry) .above) ≡ marks above → Holds (chip (now (self .entry))) (now (settled .entry)) above → r ≡ solution-J (chip (now (self .entry))) f above) ⌝ }
+        ensures few { λ r. ⌜ In-time r 1000000 ⌝ }
+    {
+        let counted = self.direct(f, settled.above);
+        self.least(f, counted, &self.jitters(settled, f, counted))
     }
 }
