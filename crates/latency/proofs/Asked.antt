@@ -2,12 +2,15 @@
 use mathlib.Core.Path.{_≡_, sym, _∙_, ap}
 use mathlib.Core.Bool.{Bool, true}
 use mathlib.Core.List.{List}
-use Prim.Native.Nat.{ℕ}
+use Prim.Native.Nat.{ℕ, _≤_}
+use native.Mathlib.Omega.{arith}
+use lib.Dec.{leb}
 use lib.ListN.{length}
+use Rattle.std.proofs.shelf.Tests.{and-from, le-leb}
 use Rattle.rule.specs.Lists.{is-flow, within, proper, marks}
 use Rattle.rule.specs.FlowSets.{marks-of}
 use Rattle.rule.specs.declared.flow_set.FlowSet.{FlowSet}
-use Rattle.rule.proofs.Distinct.{distinct-parts}
+use Rattle.rule.proofs.Distinct.{distinct-parts, flow-range}
 use Rattle.chip.specs.declared.parameters.FlowParameters.{FlowParameters}
 use Rattle.latency.proofs.Kept.{marks-within}
 
@@ -20,3 +23,7 @@ pub asked-flows : (fs : List FlowParameters) (f : ℕ) (above : List ℕ) (set :
 asked-flows fs f above set asked e =
     let parts = distinct-parts (length fs) f above asked in
     (parts .0, ap (within (length fs)) e ∙ marks-within (length fs) above (parts .2))
+
+-- a flow of few is a flow of more
+pub flow-more : (n m f : ℕ) → n ≤ m → is-flow n f ≡ true → is-flow m f ≡ true
+flow-more n m f more asked = let range = flow-range n f asked in and-from (leb 1 f) (leb f m) (le-leb 1 f (range .0)) (le-leb f m (omega arith))

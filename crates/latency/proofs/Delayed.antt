@@ -55,11 +55,13 @@ settled-solution fs s f set kept table above few asked e holds kept-is same =
   where
     once : distinct (length fs) above ≡ true
     once = distinct-parts (length fs) f above asked .2
+
     inside : (j : ℕ) → among j above ≡ true → direct fs f j ≡ true → among j (members kept) ≡ true
     inside j h d =
         let range = flow-range (length fs) j (distinct-flows (length fs) above once j h) in
         let member : among j (members (marks above)) ≡ true = among-members j (marks above) ∙ has-marks j above (range .0) (omega (arith, range)) ∙ h in
         ap (among j) (kept-is ∙ ap (λ x. kept-by (direct fs f) (members x)) e) ∙ among-kept (direct fs f) (members (marks above)) j member ∙ d
+
     loads : (t : ℕ) → load (tabled fs table kept) t ≡ load (delayed fs f above) t
     loads t =
         ap (λ js. load (interferers fs (of-flow table) js) t) (kept-is ∙ ap (λ x. kept-by (direct fs f) (members x)) e)

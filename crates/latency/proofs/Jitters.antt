@@ -38,12 +38,15 @@ filled-more w all before after table j v e some few flows own low old =
       sized = length-set table (j - 1) v ∙ old .sized;
       small = set-small table (j - 1) v 1000000 low (old .small);
       within = λ k asked. old .within k (rw e (or-right (eqb k j) (among k after) asked));
-      done = λ k asked. go k asked (cases-eq k j) (old .done k asked) }
+      done = λ k asked. go k asked (cases-eq k j) (old .done k asked);
+    }
   where
     here : of-flow (set table (j - 1) v) j ≡ w j
     here = getD-set-same table (j - 1) v 0 (omega (arith, old .sized)) ∙ own
+
     other : (k : ℕ) → among k all ≡ true → (k ≡ j → ⊥) → of-flow (set table (j - 1) v) k ≡ of-flow table k
     other k asked n = getD-set-other table (j - 1) (k - 1) v 0 (λ s. n (omega (arith, flows k asked)))
+
     go : (k : ℕ) → among k all ≡ true → (k ≡ j) ⊎ (k ≡ j → ⊥) → (among k before ≡ true) ⊎ (of-flow table k ≡ w k) → (among k after ≡ true) ⊎ (of-flow (set table (j - 1) v) k ≡ w k)
     go k asked (inl s) was = inr (ap (of-flow (set table (j - 1) v)) s ∙ here ∙ ap w (sym s))
     go k asked (inr n) (inl coming) = inl (left (or-cases (eqb k j) (among k after) (rw e at coming)))

@@ -106,7 +106,7 @@ told-some true o e h = e
 told-some false o e h = let z : _≡_ {A = ℕ} 0 1 = cc in absurd (omega arith)
 
 -- where all flows above, highest first, have a solution, the bound told is the solution
-bound-J-is : (fs : List FlowParameters) (f : ℕ) (above : List ℕ) → all-settled fs (reverse above) ≡ true → bound-J fs f above ≡ solution-J fs f (reverse above)
+pub bound-J-is : (fs : List FlowParameters) (f : ℕ) (above : List ℕ) → all-settled fs (reverse above) ≡ true → bound-J fs f above ≡ solution-J fs f (reverse above)
 bound-J-is fs f above ok = ap (λ b. cond b (solution-J fs f (reverse above)) None) ok
 
 -- in a list in which each flow has a bound under those before it, each has a solution

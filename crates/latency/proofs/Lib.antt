@@ -9,6 +9,7 @@ mod Linked
 mod Pass
 mod Jitters
 mod Delayed
+mod Settles
 mod Filling
 mod Sharers
 mod Sums

@@ -6,11 +6,11 @@ ghost use Prim.Native.Nat.{ℕ, _-_, _≤_};
 ghost use lib.ListN.{length, set};
 ghost use Rattle.rule.specs.FlowSets.{marks-of, members, put};
 ghost use Rattle.rule.specs.Lists.{is-flow, within, among, distinct, proper, marks};
-ghost use Rattle.rule.specs.Meaning.{In-time};
+ghost use Rattle.rule.specs.Meaning.{In-time, leading};
 ghost use Rattle.rule.specs.Questions.{one-more, table};
 ghost use Rattle.latency.specs.Chips.{chip};
 ghost use Rattle.latency.specs.Interference.{disturbed};
-ghost use Rattle.latency.specs.Rules.{solution-J};
+ghost use Rattle.latency.specs.Rules.{solution-J, meaning-J};
 ghost use Rattle.latency.specs.Settling.{Holds, Settling, jitter-by, Ready};
 ghost use Rattle.latency.specs.Tables.{row, of-flow};
 use crate::settled::Settled;
@@ -66,7 +66,9 @@ impl Traffic {
         if !self.disturbed(f, j, settled.over[j as usize - 1]) {
             return 0;
         }
-        settled.bounds[j as usize - 1].saturating_sub(self.flow(j).latency)
+        settled
+            .bounds[j as usize - 1]
+            .saturating_sub(self.flow(j).latency)
     }
 
     // The interference jitter of each flow of a set with respect to f, by what is settled.
@@ -91,5 +93,19 @@ impl Traffic {
     {
         let counted = self.direct(f, settled.above);
         self.least(f, counted, &self.jitters(settled, f, counted))
+    }
+
+    // Settles the flows of a list from place k on, highest first, up to the first that has no solution.
+    fn settle(&self, list: &[u8], k: usize, settled: &mut Settled)
+        requires { ⌜ distinct (length (chip (now self))) (now list) ≡ true ⌝ ∗ ⌜ Settling (chip (now self)) (now list) k (now settled) ⌝ }
+        ensures { λ _. ⌜ Settling (chip (now (self .entry))) (now (list .entry)) (length (leading (meaning-J (chip (now (self .entry)))) [] (now (list .entry)))) (now (settled .exit)) ⌝ }
+    {
+        if k >= list.len() {
+            return;
+        }
+        if let Some(r) = self.under(settled, list[k]) {
+            settled.place(list[k], r);
+            self.settle(list, k + 1, settled);
+        }
     }
 }

@@ -1,3 +1,4 @@
+use Rattle.latency.proofs.Settles.{distinct-take}
 use Rattle.latency.proofs.Kept.{flows-within}
 use Rattle.latency.proofs.Fixed.{least-is}
 use Rattle.latency.proofs.LawsOfD.{lawful-D}

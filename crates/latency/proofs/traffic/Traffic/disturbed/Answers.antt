@@ -23,4 +23,4 @@ returns c =
     ap not (c .is-empty .ensures ∙ ap empty (c .less .ensures ∙ ap (λ s. less s far) (c .and .ensures)))
     ∙ some-in-both-not set near far (marks-of-length (c .args .over) ∙ sym (marks-of-length (c .near .result))) (ap length (sym (c .and .ensures)) ∙ marks-of-length (c .and .result) ∙ sym (marks-of-length (c .near-2 .result)))
     ∙ any-same (λ g. has near g && not (has far g)) (λ g. share fs g (c .args .j) && not (share fs g (c .args .f))) (members set)
-      (λ g asked. ap₂ (λ a b. a && not b) (c .near .ensures g ∙ ap (λ b. b && share fs g (c .args .j)) (flows g asked)) (c .near-2 .ensures g ∙ ap (λ b. b && share fs g (c .args .f)) (flows g asked)))
+    (λ g asked. ap₂ (λ a b. a && not b) (c .near .ensures g ∙ ap (λ b. b && share fs g (c .args .j)) (flows g asked)) (c .near-2 .ensures g ∙ ap (λ b. b && share fs g (c .args .f)) (flows g asked)))

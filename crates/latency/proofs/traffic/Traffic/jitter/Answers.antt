@@ -40,7 +40,8 @@ returns-then-not-disturbed c =
     let late : ℕ = of-flow (c .args .settled .now .bounds) (c .args .j) - flow fs (c .args .j) .latency in
     record {
       value = ap (λ b. cond b late 0) (c .if-not-disturbed .ensures tt ∙ ap (λ s. disturbed fs (c .args .f) (members s) (c .args .j)) (sym rows));
-      few = omega arith }
+      few = omega arith;
+    }
 
 pub returns : need.returns
 returns c =
@@ -49,7 +50,8 @@ returns c =
     let late : ℕ = of-flow (c .args .settled .now .bounds) (c .args .j) - flow fs (c .args .j) .latency in
     record {
       value =
-        c .saturating-sub .ensures
-        ∙ ap (λ p. of-flow (c .args .settled .now .bounds) (c .args .j) - p .latency) (c .flow .ensures .value)
-        ∙ ap (λ b. cond b late 0) (c .if-not-disturbed .ensures tt ∙ ap (λ s. disturbed fs (c .args .f) (members s) (c .args .j)) (sym rows));
-      few = omega (arith, c .saturating-sub .ensures, c .args .settled .now .small (c .args .j - 1)) }
+          c .saturating-sub .ensures
+          ∙ ap (λ p. of-flow (c .args .settled .now .bounds) (c .args .j) - p .latency) (c .flow .ensures .value)
+          ∙ ap (λ b. cond b late 0) (c .if-not-disturbed .ensures tt ∙ ap (λ s. disturbed fs (c .args .f) (members s) (c .args .j)) (sym rows));
+      few = omega (arith, c .saturating-sub .ensures, c .args .settled .now .small (c .args .j - 1));
+    }

@@ -18,10 +18,13 @@ use Rattle.latency.proofs.traffic.Traffic.under.Needs as need
 
 pub jitters-requires : need.jitters-requires
 jitters-requires c κs =
-    let above = marks-of (c .args .settled .now .above) in
-    ( c .pre .0
-    , ( c .direct-counted .ensures .flows
-      , λ j asked. c .pre .1 .1 j (sym (among-members j above) ∙ kept-among (direct (chip (c .args .self .now)) (c .args .f)) (members above) j (sym (ap (among j) (c .direct-counted .ensures .value)) ∙ asked))))
+    let above = marks-of (c .args .settled .now .above) in (
+      c .pre .0,
+      (
+        c .direct-counted .ensures .flows,
+        λ j asked. c .pre .1 .1 j (sym (among-members j above) ∙ kept-among (direct (chip (c .args .self .now)) (c .args .f)) (members above) j (sym (ap (among j) (c .direct-counted .ensures .value)) ∙ asked)),
+      ),
+    )
 
 pub returns : need.returns
 returns c =
@@ -30,4 +33,5 @@ returns c =
     let f = c .args .f in
     record {
       value = λ above asked e holds. c .least .ensures .value ∙ settled-solution fs s f (marks-of (s .above)) (marks-of (c .direct-counted .result)) (c .jitters .result) above (chip-few (c .args .self .now)) asked e holds (c .direct-counted .ensures .value) (c .jitters .ensures .value);
-      few = in-time (c .least .result) (flow fs f .deadline) 1000000 (deadline-few (c .args .self .now) f (c .pre .0)) (timely (demand (flow fs f .latency) (tabled fs (c .jitters .result) (marks-of (c .direct-counted .result)))) (flow fs f .deadline) (c .least .result) (c .least .ensures .least)) }
+      few = in-time (c .least .result) (flow fs f .deadline) 1000000 (deadline-few (c .args .self .now) f (c .pre .0)) (timely (demand (flow fs f .latency) (tabled fs (c .jitters .result) (marks-of (c .direct-counted .result)))) (flow fs f .deadline) (c .least .result) (c .least .ensures .least));
+    }
