@@ -12,7 +12,7 @@ use Rattle.std.specs.Options.{isSome}
 use Rattle.std.specs.declared.option.Option.{Option}
 use Rattle.std.specs.declared.option.Option.the-variants.{Some, None}
 use Rattle.std.proofs.shelf.Lists.{take-more, take-all, take-append-drop, length-take-le, length-map, map-set, getD-set-same, getD-set-other}
-use Rattle.std.proofs.shelf.Tests.{cases-eq, cases-lt, or-cases, or-left, or-right, eqb-true, eq-eqb, and-from}
+use Rattle.std.proofs.shelf.Tests.{cases-eq, cases-lt, or-cases, or-left, or-right, eqb-true, eq-eqb, and-from, and-parts}
 use Rattle.chip.specs.declared.parameters.FlowParameters.{FlowParameters}
 use Rattle.rule.specs.Lists.{is-flow, among, times, distinct, proper, within, has, marks}
 use Rattle.rule.specs.FlowSets.{marks-of, members, put}
@@ -195,3 +195,54 @@ module _ (fs : List FlowParameters) (list : List ℕ) (few : length fs ≤ 20) (
             holds-other fs s next (getD list k 0) r over bounds (reverse (take k list)) (range .0) others (so-far .holds),
           );
         }
+
+-- nothing is settled yet
+pub settling-none : (fs : List FlowParameters) (list : List ℕ) (s : Settled) → s .told ≡ table [] → marks-of (s .above) ≡ marks [] → Settling fs list 0 s
+settling-none fs list s told above = record { bounded = omega arith; told = told; above = above; holds = tt }
+
+-- where the flows of a list have solutions, so have the first of them
+all-settled-end : (fs : List FlowParameters) (xs ys : List ℕ) → all-settled fs (xs ++ ys) ≡ true → all-settled fs ys ≡ true
+all-settled-end fs [] ys h = h
+all-settled-end fs (x ∷ xs) ys h = all-settled-end fs xs ys (and-parts (isSome (solution-J fs x (xs ++ ys))) (all-settled fs (xs ++ ys)) h .1)
+
+settled-first : (fs : List FlowParameters) (xs ys : List ℕ) → all-settled fs (reverse (xs ++ ys)) ≡ true → all-settled fs (reverse xs) ≡ true
+settled-first fs xs ys h = all-settled-end fs (reverse ys) (reverse xs) (rw (reverse-append xs ys) at h)
+
+module _ (fs : List FlowParameters) (f : ℕ) (list : List ℕ) (s : Settled) (so-far : Settling fs list (length (leading (meaning-J fs) [] list)) s) where
+  -- all bounds are told
+  pub settled-told : s .told ≡ table (leading (meaning-J fs) [] list)
+  settled-told = so-far .told ∙ ap table (take-all (length (leading (meaning-J fs) [] list)) (leading (meaning-J fs) [] list) (omega arith))
+
+  pub settled-count : s .told .count ≡ length (leading (meaning-J fs) [] list)
+  settled-count = ap (λ b. b .count) settled-told
+
+  -- a flow without a solution leaves those below it without a bound
+  pub settled-short : s .told .count < length list → None ≡ bound-J fs f list
+  settled-short short = go (all-settled fs (reverse list)) refl
+    where
+      inside : length (leading (meaning-J fs) [] list) < length list
+      inside = omega (arith, settled-count)
+
+      none : bound-J fs (getD list (length (leading (meaning-J fs) [] list)) 0) (take (length (leading (meaning-J fs) [] list)) list) ≡ None
+      none = leading-stops (meaning-J fs) list (length (leading (meaning-J fs) [] list)) refl inside
+
+      go : (b : Bool) → all-settled fs (reverse list) ≡ b → None ≡ cond b (solution-J fs f (reverse list)) None
+      go true e =
+          let k : ℕ = length (leading (meaning-J fs) [] list) in
+          let first : all-settled fs (reverse (take (k + 1) list)) ≡ true = settled-first fs (take (k + 1) list) (drop (k + 1) list) (ap (λ xs. all-settled fs (reverse xs)) (take-append-drop (k + 1) list) ∙ e) in
+          let parts = and-parts (isSome (solution-J fs (getD list k 0) (reverse (take k list)))) (all-settled fs (reverse (take k list))) (rw (reverse-more list k inside) at first) in
+          let clash : true ≡ false = sym (parts .0) ∙ ap isSome (sym (bound-J-is fs (getD list k 0) (take k list) (parts .1)) ∙ none) in
+          let z : _≡_ {A = ℕ} 0 1 = cc in
+          absurd (omega arith)
+      go false e = refl
+
+  -- there are at most as many bounds as flows
+  pub settled-few : s .told .count ≤ length list
+  settled-few = omega (arith, settled-count, leading-most (meaning-J fs) [] list)
+
+  -- with all flows settled, the bound is the solution under them
+  pub settled-whole : length list ≤ s .told .count → (Holds fs s (reverse list)) × (marks-of (s .above) ≡ marks list) × (bound-J fs f list ≡ solution-J fs f (reverse list))
+  settled-whole whole =
+      let whole-list : take (length (leading (meaning-J fs) [] list)) list ≡ list = take-all (length (leading (meaning-J fs) [] list)) list (omega (arith, settled-count)) in
+      let holds : Holds fs s (reverse list) = subst (λ xs. Holds fs s (reverse xs)) whole-list (so-far .holds) in
+      (holds, so-far .above ∙ ap marks whole-list, bound-J-is fs f list (holds-settled fs s (reverse list) holds))

@@ -10,7 +10,7 @@ ghost use Rattle.rule.specs.Meaning.{In-time, leading};
 ghost use Rattle.rule.specs.Questions.{one-more, table};
 ghost use Rattle.latency.specs.Chips.{chip};
 ghost use Rattle.latency.specs.Interference.{disturbed};
-ghost use Rattle.latency.specs.Rules.{solution-J, meaning-J};
+ghost use Rattle.latency.specs.Rules.{solution-J, bound-J, meaning-J};
 ghost use Rattle.latency.specs.Settling.{Holds, Settling, jitter-by, Ready};
 ghost use Rattle.latency.specs.Tables.{row, of-flow};
 use crate::settled::Settled;
@@ -107,5 +107,28 @@ impl Traffic {
             settled.place(list[k], r);
             self.settle(list, k + 1, settled);
         }
+    }
+
+    // The bound of flow f under the flows of a list, highest first: nothing if one of them has none.
+    pub(crate) fn delayed_bound(&self, f: u8, above: &[u8]) -> Option<u32>
+        requires { ⌜ proper (length (chip (now self))) f (now above) ≡ true ⌝ }
+        ensures { λ r. ⌜ r ≡ bound-J (chip (now (self .entry))) f (now (above .entry)) ⌝ }
+    {
+        let mut settled = Settled::none();
+        self.settle(above, 0, &mut settled);
+        if (settled.told.count as usize) < above.len() {
+            return None;
+        }
+        self.under(&settled, f)
+    }
+
+    // The bounds of the flows of a list, highest first, each under those before it, up to the first that has none.
+    pub(crate) fn delayed_bounds(&self, list: &[u8]) -> Bounds
+        requires { ⌜ distinct (length (chip (now self))) (now list) ≡ true ⌝ }
+        ensures { λ r. ⌜ r ≡ table (leading (meaning-J (chip (now (self .entry)))) [] (now (list .entry))) ⌝ }
+    {
+        let mut settled = Settled::none();
+        self.settle(list, 0, &mut settled);
+        settled.told
     }
 }
