@@ -110,7 +110,7 @@ pub bound-J-is : (fs : List FlowParameters) (f : ℕ) (above : List ℕ) → all
 bound-J-is fs f above ok = ap (λ b. cond b (solution-J fs f (reverse above)) None) ok
 
 -- in a list in which each flow has a bound under those before it, each has a solution
-passes-settled : (fs : List FlowParameters) (above levels : List ℕ) → all-settled fs (reverse above) ≡ true → Passes-under (meaning-J fs) above levels → all-settled fs (reverse (above ++ levels)) ≡ true
+pub passes-settled : (fs : List FlowParameters) (above levels : List ℕ) → all-settled fs (reverse above) ≡ true → Passes-under (meaning-J fs) above levels → all-settled fs (reverse (above ++ levels)) ≡ true
 passes-settled fs above [] ok passes = rw append-nil ok
 passes-settled fs above (f ∷ levels) ok passes =
     let own : isSome (solution-J fs f (reverse above)) ≡ true = told-some (all-settled fs (reverse above)) (solution-J fs f (reverse above)) (passes .0) ok in

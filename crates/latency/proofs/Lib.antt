@@ -10,6 +10,7 @@ mod Pass
 mod Jitters
 mod Delayed
 mod Settles
+mod Promised
 mod Filling
 mod Sharers
 mod Sums

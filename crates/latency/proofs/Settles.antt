@@ -205,7 +205,7 @@ all-settled-end : (fs : List FlowParameters) (xs ys : List ℕ) → all-settled 
 all-settled-end fs [] ys h = h
 all-settled-end fs (x ∷ xs) ys h = all-settled-end fs xs ys (and-parts (isSome (solution-J fs x (xs ++ ys))) (all-settled fs (xs ++ ys)) h .1)
 
-settled-first : (fs : List FlowParameters) (xs ys : List ℕ) → all-settled fs (reverse (xs ++ ys)) ≡ true → all-settled fs (reverse xs) ≡ true
+pub settled-first : (fs : List FlowParameters) (xs ys : List ℕ) → all-settled fs (reverse (xs ++ ys)) ≡ true → all-settled fs (reverse xs) ≡ true
 settled-first fs xs ys h = all-settled-end fs (reverse ys) (reverse xs) (rw (reverse-append xs ys) at h)
 
 module _ (fs : List FlowParameters) (f : ℕ) (list : List ℕ) (s : Settled) (so-far : Settling fs list (length (leading (meaning-J fs) [] list)) s) where

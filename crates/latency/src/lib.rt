@@ -1,5 +1,6 @@
 // Latency rules of the mesh chip: the least solution of a latency's equation, and the rules D, J and L.
 mod rule_d;
+mod rule_j;
 mod rule_l;
 mod settled;
 mod settling;

@@ -50,7 +50,7 @@ impl Settled {
 
 impl Traffic {
     // Whether some flow of `over` shares with flow j and not with flow f.
-    fn disturbed(&self, f: u8, j: u8, over: FlowSet) -> bool
+    pub(crate) fn disturbed(&self, f: u8, j: u8, over: FlowSet) -> bool
         requires { ⌜ is-flow (length (chip (now self))) f ≡ true ⌝ ∗ ⌜ is-flow (length (chip (now self))) j ≡ true ⌝ ∗ ⌜ within (length (chip (now self))) (marks-of over) ≡ true ⌝ }
         ensures { λ r. ⌜ r ≡ disturbed (chip (now (self .entry))) f (members (marks-of over)) j ⌝ }
     {

@@ -1,0 +1,21 @@
+use mathlib.Core.Path.{_≡_}
+use mathlib.Core.Bool.{true}
+use mathlib.Core.Logic.{_⊎_}
+use Prim.Native.Nat.{ℕ, _≤_}
+use lib.ListN.{length, getD}
+use Rattle.rule.specs.FlowSets.{marks-of, members}
+use Rattle.rule.specs.Lists.{among}
+use Rattle.latency.specs.Chips.{chip}
+use Rattle.latency.specs.Rules.{ceiling-extra}
+use Rattle.latency.specs.Tables.{of-flow}
+use Rattle.latency.proofs.Jitters.{Filled}
+use Rattle.latency.proofs.Walking.{Flows}
+use Rattle.latency.proofs.traffic.Traffic.most_jitters.Given as given
+
+abbrev pub Inv-loop-j : given.InvT-loop-j
+Inv-loop-j l =
+    Filled (ceiling-extra (chip (l .self)) (l .f) (members (marks-of (l .set)))) (members (marks-of (l .entry .left))) (members (marks-of (l .left))) (l .extra)
+    × Flows (length (chip (l .self))) (members (marks-of (l .left)))
+
+abbrev pub μ-loop-j : given.MeasureT-loop-j
+μ-loop-j l = length (members (marks-of (l .left)))
