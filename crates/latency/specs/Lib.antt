@@ -5,3 +5,4 @@ pub mod Tables
 pub mod Chips
 pub mod Promises
 pub mod Settling
+pub mod AnyRules

@@ -1,4 +1,8 @@
-// Latency rules of the mesh chip: the least solution of a latency's equation, and the rules D, J and L.
+// Latency rules of the mesh chip: the least solution of a latency's equation, the rules D, J and L, and a type that
+// holds any of them. The bound that a rule tells is the least whole number within the flow's deadline that solves
+// the rule's equation; there is none exactly if no number within the deadline solves it or, under rule J, a flow
+// above has none. Each rule keeps the laws of a rule.
+mod any_rule;
 mod rule_d;
 mod rule_j;
 mod rule_l;
@@ -6,20 +10,11 @@ mod settled;
 mod settling;
 mod traffic;
 
-ghost use Prim.Native.Nat.{ℕ, _≤_};
-ghost use mathlib.Core.List.{List};
-ghost use lib.ListN.{length};
-ghost use Rattle.chip.specs.declared.parameters.FlowParameters.{FlowParameters};
-ghost use Rattle.rule.specs.Laws.{Lawful};
-ghost use Rattle.latency.specs.Solution.{Interferer, demand, least, Least};
-ghost use Rattle.latency.specs.Rules.{meaning-D, meaning-J, meaning-L};
-
-// The laws that the three rules keep.
-pub fn trial() -> u8
-    ensures least { λ _. ⌜ ((base limit : ℕ) (xs : List Interferer) → Least (demand base xs) limit (least base limit xs)) ⌝ }
-    ensures lawful_D { λ _. ⌜ ((fs : List FlowParameters) → 1 ≤ length fs → length fs ≤ 20 → Lawful (meaning-D fs)) ⌝ }
-    ensures lawful_J { λ _. ⌜ ((fs : List FlowParameters) → 1 ≤ length fs → length fs ≤ 20 → Lawful (meaning-J fs)) ⌝ }
-    ensures lawful_L { λ _. ⌜ ((fs : List FlowParameters) → 1 ≤ length fs → length fs ≤ 20 → Lawful (meaning-L fs)) ⌝ }
-{
-    0
-}
+pub use any_rule::AnyRule;
+pub use any_rule::OneOfThree;
+pub use rule_d::DirectRule;
+pub use rule_d::RuleD;
+pub use rule_j::JitterRule;
+pub use rule_j::RuleJ;
+pub use rule_l::LinkedRule;
+pub use rule_l::RuleL;

@@ -9,7 +9,10 @@ ghost use Rattle.latency.specs.Rules.{bound-D, meaning-D};
 ghost use Rattle.latency.specs.Interference.{flow};
 ghost use Rattle.latency.specs.Promises.{equation-D, Told};
 ghost use Rattle.rule.specs.Questions.{asked-bound};
+ghost use Prim.Native.Nat.{_≤_};
+ghost use Rattle.latency.specs.Tables.{chip-of};
 use crate::traffic::Traffic;
+use chip::Flow;
 use chip::Refusal;
 use rule::Bounds;
 use rule::FlowSet;
@@ -32,6 +35,18 @@ impl Traffic {
 #[derive(Drop)]
 pub struct RuleD {
     traffic: Traffic,
+}
+
+impl RuleD {
+    // Rule D on the first `count` flows of a table.
+    pub(crate) fn new(flows: [Flow; 20], count: u8) -> RuleD
+        requires { ⌜ 1 ≤ count ⌝ ∗ ⌜ count ≤ 20 ⌝ }
+        ensures { λ r. ⌜ chip (r .traffic) ≡ chip-of count flows ⌝ }
+    {
+        RuleD {
+            traffic: Traffic::new(flows, count),
+        }
+    }
 }
 
 pub impl Rule for RuleD as DirectRule {

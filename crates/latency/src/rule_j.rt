@@ -9,8 +9,9 @@ ghost use Rattle.rule.specs.Questions.{asked-bound};
 ghost use Rattle.latency.specs.Chips.{chip};
 ghost use Rattle.latency.specs.Promises.{Told-J};
 ghost use Rattle.latency.specs.Rules.{ceiling-extra, ceiling-J, meaning-J};
-ghost use Rattle.latency.specs.Tables.{of-flow};
+ghost use Rattle.latency.specs.Tables.{of-flow, chip-of};
 use crate::traffic::Traffic;
+use chip::Flow;
 use chip::Refusal;
 use rule::Bounds;
 use rule::FlowSet;
@@ -61,6 +62,18 @@ impl Traffic {
 #[derive(Drop)]
 pub struct RuleJ {
     traffic: Traffic,
+}
+
+impl RuleJ {
+    // Rule J on the first `count` flows of a table.
+    pub(crate) fn new(flows: [Flow; 20], count: u8) -> RuleJ
+        requires { ⌜ 1 ≤ count ⌝ ∗ ⌜ count ≤ 20 ⌝ }
+        ensures { λ r. ⌜ chip (r .traffic) ≡ chip-of count flows ⌝ }
+    {
+        RuleJ {
+            traffic: Traffic::new(flows, count),
+        }
+    }
 }
 
 pub impl Rule for RuleJ as JitterRule {

@@ -10,7 +10,10 @@ ghost use Rattle.latency.specs.Chips.{chip};
 ghost use Rattle.latency.specs.Interference.{flow};
 ghost use Rattle.latency.specs.Promises.{equation-L, Told};
 ghost use Rattle.latency.specs.Rules.{counts-L, bound-L, meaning-L};
+ghost use Prim.Native.Nat.{_≤_};
+ghost use Rattle.latency.specs.Tables.{chip-of};
 use crate::traffic::Traffic;
+use chip::Flow;
 use chip::Refusal;
 use rule::Bounds;
 use rule::FlowSet;
@@ -48,6 +51,18 @@ impl Traffic {
 #[derive(Drop)]
 pub struct RuleL {
     traffic: Traffic,
+}
+
+impl RuleL {
+    // Rule L on the first `count` flows of a table.
+    pub(crate) fn new(flows: [Flow; 20], count: u8) -> RuleL
+        requires { ⌜ 1 ≤ count ⌝ ∗ ⌜ count ≤ 20 ⌝ }
+        ensures { λ r. ⌜ chip (r .traffic) ≡ chip-of count flows ⌝ }
+    {
+        RuleL {
+            traffic: Traffic::new(flows, count),
+        }
+    }
 }
 
 pub impl Rule for RuleL as LinkedRule {
