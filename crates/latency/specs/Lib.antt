@@ -6,3 +6,4 @@ pub mod Chips
 pub mod Promises
 pub mod Settling
 pub mod AnyRules
+pub mod Figures
