@@ -1,8 +1,8 @@
 -- The flows of a chip: how many, which, and that their times are sound. Assumes nothing.
-use mathlib.Core.Path.{_≡_, refl, sym, _∙_, ap, subst}
-use mathlib.Core.Bool.{Bool, true, false, _&&_}
-use mathlib.Core.List.{List, [], _∷_, map}
-use Prim.Native.Nat.{ℕ, zero, suc, _+_, _-_, _≤_, _<_}
+use mathlib.Core.Path.{_≡_, sym, _∙_, ap}
+use mathlib.Core.Bool.{true, _&&_}
+use mathlib.Core.List.{List, [], map}
+use Prim.Native.Nat.{ℕ, _-_, _≤_}
 use native.Mathlib.Omega.{arith}
 use lib.ListN.{length, getD, take}
 use Rattle.std.proofs.shelf.Lists.{length-map, length-take-le, take-map, getD-take, getD-map}
@@ -14,7 +14,6 @@ use Rattle.rule.specs.declared.flow_set.FlowSet.{FlowSet}
 use Rattle.rule.proofs.Distinct.{flow-range}
 use Rattle.latency.specs.declared.traffic.Traffic.{Traffic}
 use Rattle.latency.specs.Chips.{chip}
-use Rattle.latency.specs.Tables.{chip-of, row}
 use Rattle.latency.specs.Interference.{no-flow, flow, share}
 
 -- a chip has as many flows as it counts

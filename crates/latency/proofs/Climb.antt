@@ -3,13 +3,13 @@
 --   below-start    at one packet of each interferer
 --   below-more     at the next step
 --   climbed        at a solution, and past the limit
-use mathlib.Core.Path.{_≡_, refl, sym, _∙_, ap}
-use mathlib.Core.Bool.{Bool, true, false, _||_}
+use mathlib.Core.Path.{_≡_, refl, sym, ap}
+use mathlib.Core.Bool.{true}
 use mathlib.Core.List.{List, [], _∷_}
 use mathlib.Core.Logic.{_⊎_, inl, inr}
-use Prim.Native.Nat.{ℕ, zero, suc, _+_, _-_, _*_, _/_, _≤_, _<_}
+use Prim.Native.Nat.{ℕ, _+_, _-_, _≤_, _<_}
 use native.Mathlib.Omega.{arith}
-use native.Mathlib.Nat.{le-div-iff-mul-le, mul-le-mul-right, one-mul}
+use native.Mathlib.Nat.{le-div-iff-mul-le, mul-le-mul-right}
 use lib.Dec.{eqb}
 use lib.ListN.{length, getD}
 use Rattle.std.specs.declared.option.Option.{Option}
@@ -23,7 +23,7 @@ use Rattle.latency.specs.Chips.{chip}
 use Rattle.latency.specs.Solution.{Interferer, up, load, demand, least, Least}
 use Rattle.latency.specs.Interference.{flow, interferers}
 use Rattle.latency.specs.Tables.{total}
-use Rattle.latency.proofs.Chips.{chip-range, chip-flow}
+use Rattle.latency.proofs.Chips.{chip-flow}
 use Rattle.latency.proofs.Fixed.{least-is, only}
 use Rattle.latency.proofs.Loads.{load-grows}
 use Rattle.latency.proofs.Walking.{Flows}

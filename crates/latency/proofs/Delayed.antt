@@ -1,6 +1,6 @@
 -- The equation of rule J from the table of settled flows: the jitter by the table is the jitter of the rule. Assumes nothing.
 use mathlib.Core.Path.{_≡_, refl, sym, _∙_, ap, ap₂}
-use mathlib.Core.Bool.{Bool, true, false, _&&_, _||_, not, cond}
+use mathlib.Core.Bool.{Bool, true, false, _&&_, not, cond}
 use mathlib.Core.List.{List, [], _∷_}
 use Prim.Native.Nat.{ℕ, _+_, _-_, _≤_}
 use native.Mathlib.Omega.{arith}
@@ -9,17 +9,16 @@ use lib.ListN.{length}
 use Rattle.std.specs.shelf.Lists.{kept-by}
 use Rattle.std.proofs.shelf.Tests.{or-left, or-right, eq-eqb}
 use Rattle.chip.specs.declared.parameters.FlowParameters.{FlowParameters}
-use Rattle.rule.specs.Lists.{is-flow, among, distinct, proper, marks}
-use Rattle.rule.specs.FlowSets.{marks-of, members}
-use Rattle.rule.specs.declared.flow_set.FlowSet.{FlowSet}
+use Rattle.rule.specs.Lists.{among, distinct, proper, marks}
+use Rattle.rule.specs.FlowSets.{members}
 use Rattle.rule.proofs.Distinct.{distinct-parts, flow-range}
 use Rattle.rule.proofs.Members.{among-members, has-marks}
 use Rattle.latency.specs.declared.settled.Settled.{Settled}
 use Rattle.latency.specs.Solution.{taken, load}
-use Rattle.latency.specs.Interference.{flow, share, any, direct, disturbed, interferer, interferers, counted, lateness, settled, delayed}
+use Rattle.latency.specs.Interference.{share, direct, disturbed, interferer, interferers, counted, lateness, settled, delayed}
 use Rattle.latency.specs.Rules.{solution-J}
 use Rattle.latency.specs.Settling.{Holds, jitter-by}
-use Rattle.latency.specs.Tables.{of-flow, row, tabled}
+use Rattle.latency.specs.Tables.{of-flow, tabled}
 use Rattle.latency.proofs.Kept.{among-kept, distinct-flows}
 use Rattle.latency.proofs.LawsOfJ.{jitter-J, load-delayed}
 use Rattle.latency.proofs.Loads.{load-counted-cons, load-members, settled-same}

@@ -1,7 +1,7 @@
 -- Least solutions of r = g r: what the search for one tells, that it is found, and that a smaller g has one no later. Assumes nothing.
-use mathlib.Core.Path.{_≡_, refl, sym, _∙_, ap}
+use mathlib.Core.Path.{_≡_, refl, ap}
 use mathlib.Core.Bool.{Bool, true, false, cond}
-use mathlib.Core.List.{List, [], _∷_}
+use mathlib.Core.List.{List}
 use mathlib.Core.Logic.{_⊎_, inl, inr}
 use Prim.Native.Nat.{ℕ, zero, suc, _+_, _-_, _≤_, _<_}
 use native.Mathlib.Omega.{arith}
@@ -10,7 +10,7 @@ use Rattle.std.proofs.shelf.Tests.{eqb-true, eqb-false, cases-eq, cases-lt}
 use Rattle.std.specs.declared.option.Option.{Option}
 use Rattle.std.specs.declared.option.Option.the-variants.{Some, None}
 use Rattle.rule.specs.Meaning.{No-later, In-time}
-use Rattle.latency.specs.Solution.{Interferer, load, demand, first-fixed, least, Least-fixed, Least}
+use Rattle.latency.specs.Solution.{Interferer, demand, first-fixed, least, Least}
 
 -- what the search among the k numbers from r up tells: the first of them that is fixed, or that none is
 abbrev First : (ℕ → ℕ) → ℕ → ℕ → Option ℕ → Type 0

@@ -1,16 +1,16 @@
 -- The table of rule J: what it keeps as flows are settled, and the interference jitter that it gives. Assumes nothing.
-use mathlib.Core.Path.{_≡_, refl, sym, _∙_, ap, ap₂}
-use mathlib.Core.Bool.{Bool, true, false, _&&_, _||_, not, cond}
-use mathlib.Core.List.{List, [], _∷_, map}
+use mathlib.Core.Path.{_≡_, refl, sym, _∙_, ap}
+use mathlib.Core.Bool.{true}
+use mathlib.Core.List.{List, [], _∷_}
 use mathlib.Core.Logic.{_⊎_, inl, inr}
-use Prim.Native.Nat.{ℕ, zero, suc, _+_, _-_, _≤_, _<_}
+use Prim.Native.Nat.{ℕ, zero, suc, _-_, _≤_}
 use native.Mathlib.Omega.{arith}
 use lib.Dec.{eqb}
 use lib.ListN.{length, getD, set, replicate}
 use Rattle.std.proofs.shelf.Lists.{length-set, getD-set-same, getD-set-other}
 use Rattle.std.proofs.shelf.Tests.{cases-eq, eqb-true, or-cases, or-right}
 use Rattle.rule.specs.Lists.{among}
-use Rattle.latency.specs.Tables.{row, of-flow}
+use Rattle.latency.specs.Tables.{of-flow}
 use Rattle.latency.proofs.Solved.{zeros}
 
 -- a small number written into a table of small numbers

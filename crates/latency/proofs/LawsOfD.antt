@@ -1,19 +1,19 @@
 -- Rule D keeps the laws of a rule on every chip of 1 to 20 flows. Assumes nothing.
-use mathlib.Core.Path.{_≡_, refl, sym, _∙_, ap, subst}
-use mathlib.Core.Bool.{Bool, true, false, _&&_, not}
-use mathlib.Core.List.{List, [], _∷_}
+use mathlib.Core.Path.{_≡_, sym, _∙_}
+use mathlib.Core.Bool.{true, _&&_, not}
+use mathlib.Core.List.{List}
 use Prim.Native.Nat.{ℕ, _≤_}
 use native.Mathlib.Omega.{arith}
 use lib.ListN.{length}
 use Rattle.std.proofs.shelf.Tests.{and-parts}
 use Rattle.std.specs.declared.option.Option.{Option}
-use Rattle.std.specs.declared.option.Option.the-variants.{Some, None}
+use Rattle.std.specs.declared.option.Option.the-variants.{Some}
 use Rattle.chip.specs.declared.parameters.FlowParameters.{FlowParameters}
-use Rattle.rule.specs.Lists.{is-flow, among, distinct, proper, marks, Struck}
+use Rattle.rule.specs.Lists.{is-flow, among, distinct, proper, marks}
 use Rattle.rule.specs.Meaning.{No-later}
 use Rattle.rule.specs.Laws.{Lawful}
 use Rattle.rule.specs.FlowSets.{members}
-use Rattle.latency.specs.Interference.{flow, direct, counted}
+use Rattle.latency.specs.Interference.{direct, counted}
 use Rattle.latency.specs.Rules.{none-extra, bound-D, meaning-D}
 use Rattle.latency.proofs.Loads.{load-members, load-struck, settled-timely, settled-sooner, settled-same}
 

@@ -1,12 +1,10 @@
 -- Rule J keeps the laws of a rule on every chip of 1 to 20 flows. Assumes nothing.
 -- Lists of flows above go lowest first here, as the equation of rule J takes them, unless a lemma says otherwise.
-use mathlib.Core.Path.{_≡_, refl, sym, _∙_, ap, fun-ext}
-use mathlib.Core.Bool.{Bool, true, false, _&&_, _||_, not, cond}
+use mathlib.Core.Path.{_≡_, refl, sym, _∙_, ap}
+use mathlib.Core.Bool.{Bool, true, false, _&&_, not, cond}
 use mathlib.Core.List.{List, [], _∷_, _++_, reverse, reverse-append, append-assoc, append-nil}
-use mathlib.Core.Logic.{_⊎_, inl, inr}
 use Prim.Native.Nat.{ℕ, _+_, _-_, _≤_}
 use native.Mathlib.Omega.{arith}
-use native.Mathlib.Nat.{le-trans}
 use lib.ListN.{length}
 use Rattle.std.proofs.shelf.Tests.{and-parts, and-from, or-right}
 use Rattle.std.specs.Options.{isSome}
@@ -15,12 +13,12 @@ use Rattle.std.specs.declared.option.Option.the-variants.{Some, None}
 use Rattle.chip.specs.declared.parameters.FlowParameters.{FlowParameters}
 use Rattle.rule.specs.Lists.{proper, marks, Struck}
 use Rattle.rule.specs.Lists.Struck.{none, kept, out}
-use Rattle.rule.specs.Meaning.{No-later, In-time, Passes, Passes-under}
+use Rattle.rule.specs.Meaning.{No-later, In-time, Passes-under}
 use Rattle.rule.specs.Laws.{Lawful}
-use Rattle.latency.specs.Solution.{Interferer, taken, load}
+use Rattle.latency.specs.Solution.{taken, load}
 use Rattle.rule.specs.FlowSets.{members}
-use Rattle.latency.specs.Interference.{flow, share, direct, disturbed, any, interferer, counted, settled, lateness, delayed}
-use Rattle.latency.specs.Rules.{none-extra, bound-D, solution-J, all-settled, bound-J, ceiling-extra, ceiling-J, meaning-J}
+use Rattle.latency.specs.Interference.{flow, share, direct, disturbed, any, interferer, counted, lateness, delayed}
+use Rattle.latency.specs.Rules.{none-extra, solution-J, all-settled, bound-J, ceiling-extra, meaning-J}
 use Rattle.latency.proofs.Sums.{any-members, any-struck, any-reverse, struck-reverse}
 use Rattle.latency.proofs.Loads.{load-front, load-counted-cons, load-members, load-reverse, share-grows, settled-timely, settled-sooner}
 use Rattle.latency.proofs.LawsOfD.{proper-distinct}

@@ -7,10 +7,9 @@ use mathlib.Core.Bool.{Bool, true, false, cond}
 use mathlib.Core.List.{List, [], _∷_, reverse}
 use Prim.Native.Nat.{ℕ, zero, suc, _+_, _-_, _*_, _/_, _≤_, _<_}
 use native.Mathlib.Omega.{arith}
-use native.Mathlib.Nat.{le-trans, le-refl, div-zero, div-mul-le-self, le-div-iff-mul-le, mul-le-mul-left, mul-le-mul-right}
+use native.Mathlib.Nat.{le-trans, div-zero, div-mul-le-self, le-div-iff-mul-le, mul-le-mul-left, mul-le-mul-right}
 use Rattle.std.specs.shelf.Lists.{kept-by}
-use Rattle.std.specs.declared.option.Option.{Option}
-use Rattle.std.specs.declared.option.Option.the-variants.{Some, None}
+use Rattle.std.specs.declared.option.Option.the-variants.{Some}
 use Rattle.chip.specs.declared.parameters.FlowParameters.{FlowParameters}
 use Rattle.std.proofs.shelf.Tests.{false≢true}
 use Rattle.rule.specs.Lists.{distinct, marks, Struck}

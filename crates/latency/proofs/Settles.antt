@@ -1,9 +1,9 @@
 -- Settling a list from its highest flow downward: what one more flow adds to the table, and when it ends. Assumes nothing.
-use mathlib.Core.Path.{_≡_, refl, sym, _∙_, ap, ap₂, subst}
-use mathlib.Core.Bool.{Bool, true, false, _&&_, _||_, not, cond}
+use mathlib.Core.Path.{_≡_, refl, sym, _∙_, ap, subst}
+use mathlib.Core.Bool.{Bool, true, false, cond}
 use mathlib.Core.List.{List, [], _∷_, _++_, map, reverse, reverse-append}
-use mathlib.Core.Logic.{_⊎_, inl, inr}
-use Prim.Native.Nat.{ℕ, zero, suc, _+_, _-_, _≤_, _<_}
+use mathlib.Core.Logic.{inl, inr}
+use Prim.Native.Nat.{ℕ, _+_, _-_, _≤_, _<_}
 use native.Mathlib.Omega.{arith}
 use lib.Dec.{eqb}
 use lib.ListN as ListN
@@ -12,11 +12,11 @@ use Rattle.std.specs.Options.{isSome}
 use Rattle.std.specs.declared.option.Option.{Option}
 use Rattle.std.specs.declared.option.Option.the-variants.{Some, None}
 use Rattle.std.proofs.shelf.Lists.{take-more, take-all, take-append-drop, length-take-le, length-map, map-set, getD-set-same, getD-set-other}
-use Rattle.std.proofs.shelf.Tests.{cases-eq, cases-lt, or-cases, or-left, or-right, eqb-true, eq-eqb, and-from, and-parts}
+use Rattle.std.proofs.shelf.Tests.{cases-lt, or-cases, or-left, or-right, eqb-true, eq-eqb, and-from, and-parts}
 use Rattle.chip.specs.declared.parameters.FlowParameters.{FlowParameters}
-use Rattle.rule.specs.Lists.{is-flow, among, times, distinct, proper, within, has, marks}
-use Rattle.rule.specs.FlowSets.{marks-of, members, put}
-use Rattle.rule.specs.Meaning.{Meaning, leading}
+use Rattle.rule.specs.Lists.{among, times, distinct, proper, within, has, marks}
+use Rattle.rule.specs.FlowSets.{marks-of, put}
+use Rattle.rule.specs.Meaning.{leading}
 use Rattle.rule.specs.Questions.{table, one-more}
 use Rattle.rule.specs.declared.flow_set.FlowSet.{FlowSet}
 use Rattle.rule.proofs.Distinct.{distinct-parts, distinct-times, times-distinct, proper-taken, distinct-short, flow-range}

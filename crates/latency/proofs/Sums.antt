@@ -9,7 +9,7 @@ use Prim.Native.Nat.{ℕ, zero, suc, _+_, _≤_, _<_}
 use native.Mathlib.Omega.{arith}
 use native.Mathlib.Nat.{zero-add}
 use lib.Dec.{eqb, leb, ltb}
-use Rattle.std.proofs.shelf.Tests.{and-parts, not-true, eqb-true, eqb-false, leb-true, lt-ltb, cases-eq, eq-eqb, ne-eqb, or-cases, or-left, or-right}
+use Rattle.std.proofs.shelf.Tests.{and-parts, not-true, leb-true, lt-ltb, cases-eq, eq-eqb, ne-eqb, or-cases, or-left, or-right}
 use Rattle.rule.specs.Lists.{is-flow, among, distinct, marks, marks-from, Struck}
 use Rattle.rule.specs.Lists.Struck.{none, kept, out}
 use Rattle.rule.specs.FlowSets.{members, members-from}

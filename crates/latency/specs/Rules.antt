@@ -2,16 +2,15 @@
 --   solution-D, solution-J, solution-L    the least solution of the rule's equation within the deadline
 --   bound-D, bound-J, bound-L             the bound told of a flow under the list of those above it
 --   meaning-D, meaning-J, meaning-L       all answers of the rule
-use mathlib.Core.Bool.{Bool, true, false, _&&_, _||_, cond}
+use mathlib.Core.Bool.{Bool, true, _&&_, _||_, cond}
 use mathlib.Core.List.{List, [], _∷_, reverse}
 use Prim.Native.Nat.{ℕ, _-_}
 use lib.ListN.{length}
 use Rattle.std.specs.Options.{isSome}
 use Rattle.std.specs.declared.option.Option.{Option}
-use Rattle.std.specs.declared.option.Option.the-variants.{Some, None}
+use Rattle.std.specs.declared.option.Option.the-variants.{None}
 use Rattle.chip.specs.declared.parameters.FlowParameters.{FlowParameters}
 use Rattle.rule.specs.Meaning.{Meaning}
-use Rattle.latency.specs.Solution.{Interferer}
 use Rattle.rule.specs.FlowSets.{members}
 use Rattle.latency.specs.Interference.{flow, direct, indirect, disturbed, counted, settled, delayed}
 

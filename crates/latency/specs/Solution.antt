@@ -5,7 +5,7 @@
 --   least          the least r not above a limit with r = demand r, or nothing
 --   Least          the same in words: what the answer is, and when there is none
 use mathlib.Core.Path.{_≡_}
-use mathlib.Core.Bool.{Bool, cond}
+use mathlib.Core.Bool.{cond}
 use mathlib.Core.List.{List, [], _∷_}
 use Prim.Native.Nat.{ℕ, zero, suc, _+_, _-_, _*_, _/_, _≤_, _<_}
 use lib.Dec.{eqb}

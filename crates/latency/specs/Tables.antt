@@ -5,7 +5,6 @@
 --   routed        the flows of a table of routes
 --   total         a sum over flows
 --   tabled        the flows of a set as interferers
-use mathlib.Core.Path.{_≡_}
 use mathlib.Core.Bool.{Bool, true, cond}
 use mathlib.Core.List.{List, [], _∷_, map}
 use Prim.Native.Nat.{ℕ, zero, suc, _+_, _-_}

@@ -39,7 +39,7 @@ impl Traffic {
     }
 
     // The bound of flow f under the flows of a set: those linked to f interfere, without interference jitter.
-    fn linked_bound(&self, f: u8, set: FlowSet) -> Option<u32>
+    pub(crate) fn linked_bound(&self, f: u8, set: FlowSet) -> Option<u32>
         requires { ⌜ is-flow (length (chip (now self))) f ≡ true ⌝ ∗ ⌜ within (length (chip (now self))) (marks-of set) ≡ true ⌝ }
         ensures { λ r. ⌜ r ≡ bound-L (chip (now (self .entry))) f (members (marks-of set)) ⌝ }
     {

@@ -1,8 +1,7 @@
 use mathlib.Core.Path.{_≡_, sym, _∙_, ap}
 use Prim.Native.Nat.{ℕ}
 use native.Mathlib.Omega.{arith}
-use lib.ListN.{length, getD, take}
-use Rattle.std.specs.declared.option.Option.{Option}
+use lib.ListN.{getD, take}
 use Rattle.rule.specs.FlowSets.{members}
 use Rattle.rule.proofs.Told.{sound, list-short, all-told, telling-more, telling-ends, telling-all}
 use Rattle.latency.specs.Chips.{chip}

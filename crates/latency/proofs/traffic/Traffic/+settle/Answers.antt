@@ -1,18 +1,11 @@
-use mathlib.Core.Path.{_≡_, sym, _∙_, ap}
-use mathlib.Core.Bool.{true}
+use mathlib.Core.Path.{sym, _∙_}
 use mathlib.Core.List.{List, reverse}
-use Prim.Native.Nat.{ℕ, _<_}
+use Prim.Native.Nat.{ℕ}
 use native.Mathlib.Omega.{arith}
 use lib.ListN.{length, getD, take}
-use Rattle.std.specs.declared.option.Option.{Option}
-use Rattle.std.specs.declared.option.Option.the-variants.{Some, None}
 use Rattle.chip.specs.declared.parameters.FlowParameters.{FlowParameters}
-use Rattle.rule.specs.Lists.{is-flow, distinct, proper, marks, among}
-use Rattle.rule.specs.FlowSets.{marks-of}
 use Rattle.rule.proofs.Distinct.{distinct-parts}
 use Rattle.latency.specs.Chips.{chip}
-use Rattle.latency.specs.Rules.{solution-J}
-use Rattle.latency.specs.Settling.{Settling}
 use Rattle.latency.specs.declared.settled.Settled.{Settled}
 use Rattle.latency.proofs.Asked.{flow-more}
 use Rattle.latency.proofs.Chips.{chip-few}

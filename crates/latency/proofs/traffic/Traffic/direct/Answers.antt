@@ -1,9 +1,9 @@
 use mathlib.Core.Path.{_≡_, sym, _∙_, ap}
-use mathlib.Core.Bool.{Bool, true, _&&_}
+use mathlib.Core.Bool.{_&&_}
 use Prim.Native.Nat.{ℕ}
 use lib.ListN.{length}
 use Rattle.std.specs.shelf.Lists.{kept-by}
-use Rattle.rule.specs.Lists.{is-flow, has, among}
+use Rattle.rule.specs.Lists.{has}
 use Rattle.rule.specs.FlowSets.{marks-of, members}
 use Rattle.rule.proofs.FlowSets.{marks-of-length}
 use Rattle.latency.specs.Chips.{chip}

@@ -1,11 +1,10 @@
-use mathlib.Core.Path.{_≡_, sym, _∙_, ap, ap₂}
-use mathlib.Core.Bool.{Bool, true, _&&_, not}
+use mathlib.Core.Path.{sym, _∙_, ap, ap₂}
+use mathlib.Core.Bool.{_&&_, not}
 use mathlib.Core.List.{List}
-use Prim.Native.Nat.{ℕ}
 use lib.ListN.{length}
 use Rattle.chip.specs.declared.parameters.FlowParameters.{FlowParameters}
 use Rattle.rule.specs.Lists.{has}
-use Rattle.rule.specs.FlowSets.{marks-of, members, both, less, empty}
+use Rattle.rule.specs.FlowSets.{marks-of, members, less, empty}
 use Rattle.rule.proofs.FlowSets.{marks-of-length}
 use Rattle.latency.specs.Chips.{chip}
 use Rattle.latency.specs.Interference.{share}

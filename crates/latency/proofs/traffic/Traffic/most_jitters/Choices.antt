@@ -1,13 +1,7 @@
-use mathlib.Core.Path.{_≡_}
-use mathlib.Core.Bool.{true}
-use mathlib.Core.Logic.{_⊎_}
-use Prim.Native.Nat.{ℕ, _≤_}
-use lib.ListN.{length, getD}
+use lib.ListN.{length}
 use Rattle.rule.specs.FlowSets.{marks-of, members}
-use Rattle.rule.specs.Lists.{among}
 use Rattle.latency.specs.Chips.{chip}
 use Rattle.latency.specs.Rules.{ceiling-extra}
-use Rattle.latency.specs.Tables.{of-flow}
 use Rattle.latency.proofs.Jitters.{Filled}
 use Rattle.latency.proofs.Walking.{Flows}
 use Rattle.latency.proofs.traffic.Traffic.most_jitters.Given as given

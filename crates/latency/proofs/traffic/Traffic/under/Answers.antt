@@ -1,6 +1,5 @@
-use mathlib.Core.Path.{_≡_, sym, _∙_, ap}
+use mathlib.Core.Path.{sym, _∙_, ap}
 use mathlib.Core.List.{List}
-use lib.ListN.{length}
 use Rattle.chip.specs.declared.parameters.FlowParameters.{FlowParameters}
 use Rattle.rule.specs.FlowSets.{marks-of, members}
 use Rattle.rule.specs.Lists.{among}

@@ -1,7 +1,5 @@
-use mathlib.Core.Path.{_≡_, refl, ap}
-use Prim.Native.Nat.{_<_}
+use mathlib.Core.Path.{refl, ap}
 use native.Mathlib.Omega.{arith}
-use lib.ListN.{length}
 use Rattle.chip.specs.declared.parameters.FlowParameters.{FlowParameters}
 use Rattle.chip.specs.declared.flow.Flow.{Flow}
 use Rattle.chip.specs.declared.route.Route.{Route}

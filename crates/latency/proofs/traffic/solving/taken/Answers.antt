@@ -1,7 +1,6 @@
 use mathlib.Core.Path.{refl}
 use native.Mathlib.Omega.{arith}
-use Prim.Native.Nat.{_+_, _*_, _≤_}
-use Rattle.latency.specs.Solution.{up}
+use Prim.Native.Nat.{_+_}
 use Rattle.latency.proofs.Loads.{part-small}
 use Rattle.latency.proofs.traffic.solving.taken.Needs as need
 
