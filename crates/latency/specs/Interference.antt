@@ -3,7 +3,7 @@
 --   share        two flows of the chip share a link
 --   direct       a flow above f shares with f
 --   indirect     a flow above f shares with a direct one and not with f
---   disturbed    a flow above f that is itself held up by one that shares with it and not with f
+--   disturbed    some flow shares with a flow above f, and not with f
 --   counted      the flows of a list that a rule counts, as interferers
 --   delayed      the flows that rule J counts, each with its interference jitter
 use mathlib.Core.Bool.{Bool, false, _&&_, _||_, not, cond}

@@ -1,7 +1,8 @@
 -- The rules D, J and L: what each answers, by the flows of the chip. Assumes nothing.
---   solution-D, solution-J, solution-L    the least solution of the rule's equation within the deadline
---   bound-D, bound-J, bound-L             the bound told of a flow under the list of those above it
---   meaning-D, meaning-J, meaning-L       all answers of the rule
+--   solution-D, solution-L, solution-J    the least solution of the rule's equation within the deadline
+--   bound-D, bound-L, bound-J             the bound told of a flow under the list of those above it
+--   ceiling-J                             what rule J tells of a set at most
+--   meaning-D, meaning-L, meaning-J       all answers of the rule
 use mathlib.Core.Bool.{Bool, true, _&&_, _||_, cond}
 use mathlib.Core.List.{List, [], _∷_, reverse}
 use Prim.Native.Nat.{ℕ, _-_}
@@ -22,20 +23,23 @@ none-extra j = 0
 abbrev pub solution-D : List FlowParameters → ℕ → List ℕ → Option ℕ
 solution-D fs f above = settled fs f (counted fs (direct fs f) none-extra above)
 
+-- the bound told under rule D is the solution
 abbrev pub bound-D : List FlowParameters → ℕ → List ℕ → Option ℕ
 bound-D fs f above = solution-D fs f above
 
--- rule L counts the direct flows and the indirect ones
+-- whether rule L counts flow j: it is direct or indirect
 abbrev pub counts-L : List FlowParameters → ℕ → List ℕ → ℕ → Bool
 counts-L fs f above j = direct fs f j || indirect fs f above j
 
+-- rule L counts the direct flows and the indirect ones
 abbrev pub solution-L : List FlowParameters → ℕ → List ℕ → Option ℕ
 solution-L fs f above = settled fs f (counted fs (counts-L fs f above) none-extra above)
 
+-- the bound told under rule L is the solution
 abbrev pub bound-L : List FlowParameters → ℕ → List ℕ → Option ℕ
 bound-L fs f above = solution-L fs f above
 
--- rule J counts the direct flows, with the interference jitter of those that another disturbs; `above` lowest first
+-- rule J counts the direct flows, each with its interference jitter; `above` lowest first
 abbrev pub solution-J : List FlowParameters → ℕ → List ℕ → Option ℕ
 solution-J fs f above = settled fs f (delayed fs f above)
 
@@ -44,14 +48,16 @@ abbrev pub all-settled : List FlowParameters → List ℕ → Bool
 all-settled fs [] = true
 all-settled fs (j ∷ above) = isSome (solution-J fs j above) && all-settled fs above
 
--- a flow has no bound if one above it has none
+-- the bound told under rule J is the solution, if no flow above is without one; `above` highest first
 abbrev pub bound-J : List FlowParameters → ℕ → List ℕ → Option ℕ
 bound-J fs f above = cond (all-settled fs (reverse above)) (solution-J fs f (reverse above)) None
 
--- what a flow's jitter is at most: a direct flow that another of the set disturbs may come as late as its deadline lets it
+-- the most interference jitter of a direct flow j: as late as its deadline lets it come, if another flow of the list
+-- disturbs it; j itself shares with f, so it is never the other
 abbrev pub ceiling-extra : List FlowParameters → ℕ → List ℕ → ℕ → ℕ
 ceiling-extra fs f above j = cond (disturbed fs f above j) (flow fs j .deadline - flow fs j .latency) 0
 
+-- the ceiling of rule J counts the direct flows, each with the most jitter that it may have
 abbrev pub ceiling-J : List FlowParameters → ℕ → List ℕ → Option ℕ
 ceiling-J fs f above = settled fs f (counted fs (direct fs f) (ceiling-extra fs f above) above)
 
@@ -63,6 +69,6 @@ meaning-D fs = record { flows = length fs; deadline = λ f. flow fs f .deadline;
 abbrev pub meaning-L : List FlowParameters → Meaning
 meaning-L fs = record { flows = length fs; deadline = λ f. flow fs f .deadline; label = λ f. flow fs f .label; bound = bound-L fs; floor = λ f set. bound-L fs f (members set); ceiling = λ f set. bound-L fs f (members set) }
 
--- all answers of rule J; its floor is the bound of rule D
+-- all answers of rule J; its floor is the bound of rule D under the set's flows
 abbrev pub meaning-J : List FlowParameters → Meaning
 meaning-J fs = record { flows = length fs; deadline = λ f. flow fs f .deadline; label = λ f. flow fs f .label; bound = bound-J fs; floor = λ f set. bound-D fs f (members set); ceiling = λ f set. ceiling-J fs f (members set) }
