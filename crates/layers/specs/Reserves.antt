@@ -20,5 +20,5 @@ with-reserve reserve m =
       label = m .label;
       bound = λ f above. reserved reserve (m .deadline f) (m .bound f above);
       floor = λ f set. reserved reserve (m .deadline f) (m .floor f set);
-      ceiling = λ f set. reserved reserve (m .deadline f) (m .ceiling f set)
+      ceiling = λ f set. reserved reserve (m .deadline f) (m .ceiling f set);
     }

@@ -1,5 +1,6 @@
 // A reserve in ticks, 0 to 1,000,000.
 ghost use Prim.Native.Nat.{_≤_};
+
 mod adding;
 
 // The largest reserve, in ticks.

@@ -4,9 +4,9 @@ ghost use mathlib.Core.Path.{_≡_};
 ghost use lib.Dec.{leb};
 ghost use Rattle.chip.specs.Flows.{Answers};
 ghost use Rattle.layers.specs.Reserves.{reserved};
-use chip::Refusal;
 use crate::ticks::MOST_TICKS;
 use crate::ticks::Ticks;
+use chip::Refusal;
 
 impl Ticks {
     // So many ticks; refuses more than 1,000,000.
