@@ -60,8 +60,8 @@ later-sets-push zero i j ps p e = refl
 later-sets-push (suc k) i zero ps p e =
     let f : p .first ≡ i = omega arith in
     ap₂ (λ (m : List Bool) (ms : List (List Bool)). m ∷ ms)
-      (set-first ps p i f ∙ ap (λ (x : ℕ). put (marks (laters ps x)) (p .later) true) (sym f))
-      (later-sets-past k (suc i) ps p (omega arith))
+    (set-first ps p i f ∙ ap (λ (x : ℕ). put (marks (laters ps x)) (p .later) true) (sym f))
+    (later-sets-past k (suc i) ps p (omega arith))
 later-sets-push (suc k) i (suc j) ps p e =
     ap₂ (λ (m : List Bool) (ms : List (List Bool)). m ∷ ms) (set-other ps p i (λ f. omega arith)) (later-sets-push k (suc i) j ps p (omega arith))
 

@@ -39,7 +39,7 @@ with-pairs ps m =
       label = m .label;
       bound = λ f above. cond (held-back ps f (λ g. among g above)) None (m .bound f above);
       floor = λ f set. cond (held-back ps f (has set)) None (m .floor f set);
-      ceiling = λ f set. cond (held-back ps f (has set)) None (m .ceiling f set)
+      ceiling = λ f set. cond (held-back ps f (has set)) None (m .ceiling f set);
     }
 
 -- for each of k flows from i up, the set of the flows that it must precede

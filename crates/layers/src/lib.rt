@@ -2,9 +2,11 @@
 // nothing to the first flow of a pair under the later one.
 pub mod pair;
 mod pairs;
+pub mod precedence;
 pub mod reserve;
 pub mod ticks;
 
 pub use pair::Pair;
+pub use precedence::Precedence;
 pub use reserve::Reserve;
 pub use ticks::Ticks;

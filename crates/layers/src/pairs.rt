@@ -5,6 +5,7 @@ ghost use Prim.Native.Nat.{_≤_};
 ghost use lib.ListN.{length, take};
 ghost use Rattle.rule.specs.FlowSets.{marks-of};
 ghost use Rattle.layers.specs.Pairs.{later-sets};
+
 mod holding;
 
 use crate::pair::Pair;

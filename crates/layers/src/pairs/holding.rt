@@ -7,10 +7,10 @@ ghost use Rattle.rule.specs.FlowSets.{marks-of};
 ghost use Rattle.rule.specs.Lists.{has, is-flow};
 ghost use Rattle.layers.specs.Held.{pairs-of, after-add};
 ghost use Rattle.layers.specs.Pairs.{add-reply, held-back};
-use chip::Refusal;
 use crate::pair::Pair;
 use crate::pairs::MOST_PAIRS;
 use crate::pairs::Pairs;
+use chip::Refusal;
 use rule::FlowSet;
 use rule::is_flow;
 

@@ -15,10 +15,17 @@ listed c = omega (arith, table-length (c .args .self .now .later) _ (c .args .se
 
 pub ghost-result : need.ghost-result
 ghost-result c =
-    let room : c .args .self .now .count < length (c .args .self .now .list) = omega (arith, c .args .self .now .sized) in
-    (omega arith, (length-set _ _ _ ∙ c .args .self .now .sized, (
-      table-push (c .args .self .now .later) _ (c .args .self .now .agree) (c .args .pair) (c .with .result) _ (c .pre .1 .0) (c .pre .1 .1) (c .with .ensures)
-      ∙ ap (later-sets 20 1) (sym (take-more-set (c .args .self .now .list) (c .args .self .now .count) (c .args .pair) room)), tt)))
+    let room : c .args .self .now .count < length (c .args .self .now .list) = omega (arith, c .args .self .now .sized) in (
+      omega arith,
+      (
+        length-set _ _ _ ∙ c .args .self .now .sized,
+        (
+          table-push (c .args .self .now .later) _ (c .args .self .now .agree) (c .args .pair) (c .with .result) _ (c .pre .1 .0) (c .pre .1 .1) (c .with .ensures)
+              ∙ ap (later-sets 20 1) (sym (take-more-set (c .args .self .now .list) (c .args .self .now .count) (c .args .pair) room)),
+          tt,
+        ),
+      ),
+    )
 
 pub returns : need.returns
 returns c = take-more-set (c .args .self .now .list) (c .args .self .now .count) (c .args .pair) (omega (arith, c .args .self .now .sized))

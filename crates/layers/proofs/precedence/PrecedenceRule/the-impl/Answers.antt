@@ -1,0 +1,5 @@
+use Rattle.layers.proofs.Preceded.{pairs-lawful}
+use Rattle.layers.proofs.precedence.PrecedenceRule.the-impl.Needs as need
+
+pub lawful-law : need.lawful-law
+lawful-law g r = pairs-lawful _ _ (g .R·Rule·met .lawful (r .rule))
