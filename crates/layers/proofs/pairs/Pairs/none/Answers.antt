@@ -1,3 +1,4 @@
+-- Why `Pairs::none` meets its contract. Assumes nothing.
 use mathlib.Core.Path.{refl}
 use native.Mathlib.Omega.{arith}
 use Rattle.layers.proofs.Paired.{later-sets-none}

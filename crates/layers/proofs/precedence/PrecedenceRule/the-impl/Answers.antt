@@ -1,3 +1,4 @@
+-- Why `PrecedenceRule` keeps the laws of a rule. Assumes nothing.
 use Rattle.layers.proofs.Preceded.{pairs-lawful}
 use Rattle.layers.proofs.precedence.PrecedenceRule.the-impl.Needs as need
 

@@ -1,3 +1,4 @@
+-- What the loop of `ReserveRule::bounds` keeps. Assumes nothing.
 use Rattle.rule.proofs.Told.{Telling}
 use Rattle.layers.specs.Reserves.{with-reserve}
 use Rattle.layers.proofs.reserve.ReserveRule.bounds.Given as given
