@@ -3,15 +3,24 @@ use mathlib.Core.Path.{_≡_, refl, sym, ap, _∙_}
 use mathlib.Core.Bool.{Bool, true, false, cond}
 use mathlib.Core.List.{List, [], _∷_, _++_}
 use mathlib.Core.Logic.{⊎-elim}
-use Prim.Native.Nat.{ℕ, _+_, _≤_}
+use Prim.Native.Nat.{ℕ, _+_, _≤_, _<_}
+use lib.ListN.{length, getD, take}
 use native.Mathlib.Omega.{arith}
 use lib.Dec.{leb}
 use Rattle.std.specs.Options.{isSome}
 use Rattle.std.specs.declared.option.Option.{Option}
 use Rattle.std.specs.declared.option.Option.the-variants.{Some, None}
-use Rattle.std.proofs.shelf.Tests.{cases-bool, leb-true, le-leb, cond-true}
+use Rattle.std.specs.declared.result.Result.{Result}
+use Rattle.std.specs.declared.result.Result.the-variants.{Ok}
+use Rattle.chip.specs.declared.refusal.Refusal.{Refusal}
+use Rattle.std.proofs.shelf.Tests.{leb-true, le-leb, cases-lt}
+use Rattle.rule.specs.declared.bounds.Bounds.{Bounds}
 use Rattle.rule.specs.Laws.{Lawful}
-use Rattle.rule.specs.Meaning.{Meaning, Passes-under, In-time, No-later}
+use Rattle.rule.specs.Lists.{is-flow}
+use Rattle.rule.specs.Meaning.{Meaning, Passes-under, In-time, No-later, leading}
+use Rattle.rule.specs.Questions.{table, one-more, asked-bounds, asked-deadline}
+use Rattle.rule.proofs.Told.{Telling, Sound, telling-more, telling-ends, telling-all, all-told}
+use Rattle.rule.proofs.Below.{Below, answered, below-at, below-most, below-stops}
 use Rattle.layers.specs.Reserves.{reserved, with-reserve}
 
 module _ (t d : ℕ) where
@@ -63,3 +72,36 @@ reserve-lawful t m l =
       floored = λ f above s p e. reserved-later t (m .deadline f) (m .bound f above) (m .floor f _) s e (λ r q. l .floored f above r p q);
       ceiled = λ f above s p k e. reserved-later t (m .deadline f) (m .ceiling f _) (m .bound f above) s e (λ r q. l .ceiled f above r p (passes-below t m [] above k) q);
     }
+
+-- the bounds of a list, each from the bound below
+module _ (t : ℕ) (m : Meaning) (list : List ℕ) (b : Bounds) (s : Below m list b) (i : ℕ) (told : Bounds) (so-far : Telling (with-reserve t m) list i told) where
+  asked-above : Sound (with-reserve t m) list
+  asked-above = record { laws = reserve-lawful t m (s .asked .laws); once = s .asked .once }
+
+  inside : i < b .count → i < length list
+  inside h = omega (arith, below-most m list b s .0)
+
+  -- the answer for the next flow, by its deadline d
+  module _ (d : ℕ) (by-d : _≡_ {A = Result ℕ Refusal} (Ok d) (asked-deadline m (getD list i 0))) (h : i < b .count) where
+    at-flow : (o : Option ℕ) → reserved t d (Some (getD (b .ticks) i 0)) ≡ o → with-reserve t m .bound (getD list i 0) (take i list) ≡ o
+    at-flow o e =
+        let same = answered (is-flow (m .flows) (getD list i 0)) (m .deadline (getD list i 0)) d by-d .1 in
+        ap (reserved t (m .deadline (getD list i 0))) (below-at m list b s i h)
+        ∙ ap (λ (x : ℕ). reserved t x (Some (getD (b .ticks) i 0))) (sym same) ∙ e
+
+    pub reserve-more : (r : ℕ) → reserved t d (Some (getD (b .ticks) i 0)) ≡ Some r → Telling (with-reserve t m) list (i + 1) (one-more told r)
+    reserve-more r e =
+        telling-more (with-reserve t m) list i told so-far r (inside h) (omega (arith, below-most m list b s .1)) (at-flow (Some r) e)
+
+    pub reserve-ends : reserved t d (Some (getD (b .ticks) i 0)) ≡ None → Ok told ≡ asked-bounds (with-reserve t m) list
+    reserve-ends e =
+        all-told (with-reserve t m) list asked-above told (telling-ends (with-reserve t m) list i told so-far (inside h) (at-flow None e))
+
+  pub reserve-all : i ≡ b .count → Ok told ≡ asked-bounds (with-reserve t m) list
+  reserve-all e = all-told (with-reserve t m) list asked-above told (⊎-elim ends all (cases-lt i (length list)))
+    where
+      ends : i < length list → told ≡ table (leading (with-reserve t m) [] list)
+      ends h = telling-ends (with-reserve t m) list i told so-far h (ap (reserved t (m .deadline (getD list i 0))) (below-stops m list b s i e h))
+
+      all : length list ≤ i → told ≡ table (leading (with-reserve t m) [] list)
+      all h = telling-all (with-reserve t m) list i told so-far h

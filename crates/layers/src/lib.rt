@@ -1,6 +1,12 @@
-// Layers: rules made of any rule below. A reserve adds ticks to every bound, floor and ceiling.
+// Layers: rules made of any rule below. A reserve adds ticks to every bound, floor and ceiling; a precedence gives
+// nothing to the first flow of a pair under the later one.
+pub mod pair;
+mod pairs;
+pub mod precedence;
 pub mod reserve;
 pub mod ticks;
 
+pub use pair::Pair;
+pub use precedence::Precedence;
 pub use reserve::Reserve;
 pub use ticks::Ticks;

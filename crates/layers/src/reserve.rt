@@ -3,6 +3,7 @@ ghost use mathlib.Core.Path.{_≡_};
 ghost use Rattle.layers.specs.Reserves.{with-reserve};
 use crate::ticks::Ticks;
 use chip::Refusal;
+use rule::Bounds;
 use rule::FlowSet;
 use rule::Rule;
 
@@ -60,5 +61,18 @@ pub impl<R: Rule> Rule for Reserve<R> as ReserveRule {
         let below = self.rule.ceiling(f, others)?;
         let deadline = self.rule.deadline(f)?;
         Ok(self.ticks.added(below, deadline))
+    }
+
+    fn bounds(&self, list: &[u8]) -> Result<Bounds, Refusal> {
+        let below = self.rule.bounds(list)?;
+        let mut told = Bounds::none();
+        for i in 0..below.count as usize {
+            let deadline = self.rule.deadline(list[i])?;
+            match self.ticks.added(Some(below.ticks[i]), deadline) {
+                Some(ticks) => told = told.more(ticks),
+                None => return Ok(told),
+            }
+        }
+        Ok(told)
     }
 }

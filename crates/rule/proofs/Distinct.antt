@@ -12,8 +12,8 @@ use lib.Dec.{eqb, leb, ltb}
 use lib.ListN as ListN
 use lib.ListN.{length, getD, set, take, drop}
 use Rattle.std.proofs.shelf.Ways.{tells}
-use Rattle.std.proofs.shelf.Tests.{cases-eq, and-parts, not-true, leb-true}
-use Rattle.std.proofs.shelf.Lists.{getD-set-same, getD-set-other, take-append-drop, drop-more}
+use Rattle.std.proofs.shelf.Tests.{cases-eq, cases-lt, cases-bool, both-ways, and-parts, not-true, leb-true}
+use Rattle.std.proofs.shelf.Lists.{getD-set-same, getD-set-other, getD-past, take-append-drop, drop-more}
 use mathlib.Core.Logic.{_⊎_, inl, inr, ⊎-elim}
 use Rattle.rule.specs.Lists.{is-flow, among, times, distinct, proper, marks, has}
 use Rattle.rule.specs.FlowSets.{put, size}
@@ -138,3 +138,30 @@ size-most (false ∷ set) = let t = size-most set in omega arith
 -- a list without repeats has at most 20 entries
 pub distinct-short : (n : ℕ) (gs : List ℕ) → n ≤ 20 → distinct n gs ≡ true → length gs ≤ 20
 distinct-short n gs l d = omega (arith, distinct-size n gs l d, size-most (marks gs), marks-length gs)
+
+-- a set holds no number outside 1 to 20
+pub has-outside : (set : List Bool) (g : ℕ) → length set ≡ 20 → is-flow 20 g ≡ false → has set g ≡ false
+has-outside set zero l e = refl
+has-outside set (suc i) l e = getD-past set i false (past (cases-lt i 20))
+  where
+    past : (i < 20) ⊎ (20 ≤ i) → length set ≤ i
+    past (inl h) = absurd (both-ways (is-flow 20 (suc i)) e (grind (arith, tells)))
+    past (inr h) = omega arith
+
+-- what stands in a list without repeats is a flow
+pub among-flow : (n g : ℕ) (gs : List ℕ) → distinct n gs ≡ true → among g gs ≡ true → is-flow n g ≡ true
+among-flow n g gs d a = let t = distinct-times n gs d g in let u = among-times g gs in grind (arith, tells)
+
+-- a list without repeats holds what its set holds
+pub has-distinct : (n : ℕ) (gs : List ℕ) → n ≤ 20 → distinct n gs ≡ true → (g : ℕ) → has (marks gs) g ≡ among g gs
+has-distinct n gs l d g = ⊎-elim inner outer (cases-bool (is-flow 20 g))
+  where
+    inner : is-flow 20 g ≡ true → has (marks gs) g ≡ among g gs
+    inner e = let r = flow-range 20 g e in has-marks g gs (r .0) (r .1)
+
+    absent : is-flow 20 g ≡ false → (b : Bool) → among g gs ≡ b → among g gs ≡ false
+    absent e false a = a
+    absent e true a = let r = flow-range n g (among-flow n g gs d a) in let t = r .0 in let u = r .1 in absurd (both-ways (is-flow 20 g) e (grind (arith, tells)))
+
+    outer : is-flow 20 g ≡ false → has (marks gs) g ≡ among g gs
+    outer e = has-outside (marks gs) g (marks-length gs) e ∙ sym (absent e (among g gs) refl)

@@ -4,3 +4,4 @@ pub mod FlowSets
 pub mod Members
 pub mod Distinct
 pub mod Told
+pub mod Below

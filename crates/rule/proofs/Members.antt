@@ -1,6 +1,6 @@
 -- Lists of flows and the sets of their members: the laws that a rule writer wants. Assumes nothing.
 --   has-marks           a flow is in the set of a list exactly if it stands in the list
---   marks-cons, -push   one more flow in a list is one more flow in its set
+--   marks-cons, -push, -more   one more flow in a list is one more flow in its set
 --   marks-same, -times  lists with the same members, or the same counts, have the same set
 --   among-members       the members of a set are the flows in it
 --   marks-members       a set is the set of its members
@@ -13,8 +13,9 @@ use native.Mathlib.Omega.{arith}
 use native.Mathlib.Nat.{add-suc, add-zero}
 use lib.Dec.{eqb, leb, ltb}
 use lib.ListN as ListN
-use lib.ListN.{length, getD}
+use lib.ListN.{length, getD, take}
 use Rattle.std.specs.Iters.{folded}
+use Rattle.std.proofs.shelf.Lists.{take-more}
 use Rattle.std.proofs.shelf.Ways.{tells}
 use Rattle.rule.specs.Lists.{among, times, marks-from, marks, has}
 use Rattle.rule.specs.FlowSets.{put, size, members-from, members}
@@ -90,6 +91,10 @@ times-append g (x ∷ xs) ys = let t = times-append g xs ys in omega arith
 pub marks-push : (g : ℕ) (gs : List ℕ) → marks (gs ++ g ∷ []) ≡ put (marks gs) g true
 marks-push g gs =
     marks-times (gs ++ g ∷ []) (g ∷ gs) (λ x. let t = times-append x gs (g ∷ []) in omega arith) ∙ marks-cons g gs
+
+-- the set of the first flows of a list, with the next one
+pub marks-more : (list : List ℕ) (i : ℕ) → i < length list → put (marks (take i list)) (getD list i 0) true ≡ marks (take (i + 1) list)
+marks-more list i h = sym (ap marks (take-more list i 0 h) ∙ marks-push (getD list i 0) (take i list))
 
 -- a flow stands among the members of a set once if it is in the set, and else not
 members-before : (g i : ℕ) (set : List Bool) → g < i → times g (members-from i set) ≡ 0

@@ -19,13 +19,6 @@ impl Ticks {
         Ok(Ticks { count })
     }
 
-    // How many ticks.
-    pub fn count(self) -> u32
-        ensures { λ r. ⌜ r ≡ self .count ⌝ }
-    {
-        self.count
-    }
-
     // An answer with the reserve added; nothing where the sum passes the deadline.
     pub(crate) fn added(self, below: Option<u32>, deadline: u32) -> Option<u32>
         ensures { λ r. ⌜ r ≡ reserved (self .count) deadline below ⌝ }

@@ -1,3 +1,4 @@
+-- Why `is_among` meets its contract. Assumes nothing.
 use native.Mathlib.Omega.{arith}
 use Rattle.std.proofs.shelf.Lists.{at-drop-more, at-drop-all}
 use Rattle.std.proofs.shelf.Ways.{tells}

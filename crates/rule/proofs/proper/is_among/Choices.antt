@@ -1,3 +1,4 @@
+-- What the loop of `is_among` keeps. Assumes nothing.
 use mathlib.Core.Path.{_≡_}
 use lib.ListN.{drop}
 use Rattle.rule.specs.Lists.{among}

@@ -1,3 +1,4 @@
+-- What the loop of `is_distinct` keeps. Assumes nothing.
 use mathlib.Core.Path.{_≡_}
 use lib.ListN.{drop, take, length}
 use Rattle.rule.specs.Lists.{distinct}

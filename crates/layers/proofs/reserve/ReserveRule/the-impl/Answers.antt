@@ -1,3 +1,4 @@
+-- Why `ReserveRule` keeps the laws of a rule. Assumes nothing.
 use Rattle.layers.proofs.Reserved.{reserve-lawful}
 use Rattle.layers.proofs.reserve.ReserveRule.the-impl.Needs as need
 

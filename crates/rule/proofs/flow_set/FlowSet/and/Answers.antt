@@ -1,3 +1,4 @@
+-- Why `FlowSet::and` meets its contract. Assumes nothing.
 use Rattle.rule.specs.FlowSets.{marks-of}
 use Rattle.rule.proofs.Digits.{digits-and}
 use Rattle.rule.proofs.flow_set.FlowSet.and.Needs as need

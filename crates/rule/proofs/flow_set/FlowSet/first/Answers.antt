@@ -1,3 +1,4 @@
+-- Why `FlowSet::first` meets its contract. Assumes nothing.
 use native.Mathlib.Omega.{arith}
 use Rattle.std.proofs.shelf.Bits.{one-shl}
 use Rattle.rule.specs.FlowSets.{marks-of, first-flows}

@@ -1,3 +1,4 @@
+-- Why `FlowSet::has` meets its contract. Assumes nothing.
 use Rattle.rule.specs.FlowSets.{marks-of}
 use Rattle.rule.proofs.Digits.{digits-has}
 use Rattle.rule.proofs.flow_set.FlowSet.has.Needs as need

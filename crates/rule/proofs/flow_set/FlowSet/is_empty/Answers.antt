@@ -1,3 +1,4 @@
+-- Why `FlowSet::is_empty` meets its contract. Assumes nothing.
 use Rattle.rule.specs.FlowSets.{marks-of}
 use Rattle.rule.proofs.Digits.{digits-empty}
 use Rattle.rule.proofs.flow_set.FlowSet.is_empty.Needs as need

@@ -1,3 +1,4 @@
+-- Why `FlowSet::is_within` meets its contract. Assumes nothing.
 use mathlib.Core.Path.{_≡_, sym, ap, _∙_}
 use Rattle.rule.specs.FlowSets.{first-flows, less, empty}
 use Rattle.rule.proofs.Marks.{within-first}

@@ -1,3 +1,4 @@
+-- Why `FlowSet::less` meets its contract. Assumes nothing.
 use lib.Bits.{and-le-l}
 use Rattle.rule.specs.FlowSets.{marks-of}
 use Rattle.rule.proofs.Digits.{digits-less}

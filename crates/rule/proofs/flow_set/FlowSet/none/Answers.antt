@@ -1,3 +1,4 @@
+-- Why `FlowSet::none` meets its contract. Assumes nothing.
 use mathlib.Core.Path.{_∙_}
 use Rattle.rule.specs.Lists.{marks}
 use Rattle.rule.specs.FlowSets.{marks-of}

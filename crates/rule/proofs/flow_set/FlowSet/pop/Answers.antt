@@ -1,3 +1,4 @@
+-- Why `FlowSet::pop` meets its contract. Assumes nothing.
 use mathlib.Core.Path.{refl}
 use native.Mathlib.Omega.{arith}
 use Rattle.rule.specs.FlowSets.{marks-of}

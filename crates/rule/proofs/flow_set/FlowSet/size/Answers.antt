@@ -1,3 +1,4 @@
+-- Why `FlowSet::size` meets its contract. Assumes nothing.
 use Rattle.rule.specs.FlowSets.{marks-of}
 use Rattle.rule.proofs.Digits.{digits-size}
 use Rattle.rule.proofs.flow_set.FlowSet.size.Needs as need

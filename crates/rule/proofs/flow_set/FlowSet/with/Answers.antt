@@ -1,3 +1,4 @@
+-- Why `FlowSet::with` meets its contract. Assumes nothing.
 use lib.Bits.{or-lt}
 use Rattle.rule.specs.FlowSets.{marks-of}
 use Rattle.rule.proofs.Digits.{digits-with}

@@ -1,3 +1,4 @@
+-- Why `digit_of` meets its contract. Assumes nothing.
 use mathlib.Core.Path.{_≡_}
 use Prim.Native.Nat.{_*_, _-_, _%_, _^_}
 use borrow.Author.Needs.{needs}

@@ -1,3 +1,4 @@
+-- What the loop of `Rule::bounds` keeps. Assumes nothing.
 use Rattle.rule.proofs.Told.{Telling}
 use Rattle.rule.proofs.questions.Rule.bounds.Given as given
 
