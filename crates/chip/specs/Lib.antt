@@ -1,3 +1,4 @@
 pub mod Refusals
 pub mod Flows
+pub mod Reserves
 pub mod Routes

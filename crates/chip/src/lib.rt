@@ -4,6 +4,7 @@ pub mod parameters;
 pub mod port;
 pub mod refusal;
 pub mod route;
+pub mod ticks;
 
 pub use flow::Flow;
 pub use parameters::FlowParameters;
@@ -11,3 +12,4 @@ pub use parameters::Router;
 pub use port::Port;
 pub use refusal::Refusal;
 pub use route::Route;
+pub use ticks::Ticks;

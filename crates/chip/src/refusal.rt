@@ -1,9 +1,10 @@
 // The causes for which a call of the library is refused, each with its number.
 ghost use mathlib.Core.Path.{_≡_};
+ghost use Rattle.std.specs.Orderings.{Decides};
 ghost use Rattle.chip.specs.Refusals.{number-of};
 
 // Why a call was refused.
-#[derive(Clone, Copy, PartialEq, Eq, Debug)]
+#[derive(Clone, Copy, Debug)]
 pub enum Refusal {
     // The input ends in a field or before the end field.
     Truncated,
@@ -71,5 +72,13 @@ impl Refusal {
             Refusal::LevelOutside => 18,
             Refusal::ImproperQuestion => 19,
         }
+    }
+}
+
+pub impl PartialEq<Refusal> for Refusal as RefusalEquality {
+    ghost equals = { λ a b r. Decides r (number-of a ≡ number-of b) };
+
+    fn eq(&self, other: &Refusal) -> bool {
+        self.number() == other.number()
     }
 }

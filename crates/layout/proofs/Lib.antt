@@ -1,0 +1,10 @@
+pub mod Codes
+pub mod Exact
+pub mod Heads
+pub mod Laying
+pub mod Layouts
+pub mod Phases
+pub mod Single
+pub mod Steps
+pub mod Taking
+pub mod Written
