@@ -1,8 +1,9 @@
 // The reserve layer: a rule whose bounds, floors and ceilings are those of the rule below with ticks added.
 ghost use mathlib.Core.Path.{_≡_};
 ghost use Rattle.layers.specs.Reserves.{with-reserve};
-use crate::ticks::Ticks;
+use crate::adding::added;
 use chip::Refusal;
+use chip::Ticks;
 use rule::Bounds;
 use rule::FlowSet;
 use rule::Rule;
@@ -48,19 +49,19 @@ pub impl<R: Rule> Rule for Reserve<R> as ReserveRule {
     fn bound(&self, f: u8, above: &[u8]) -> Result<Option<u32>, Refusal> {
         let below = self.rule.bound(f, above)?;
         let deadline = self.rule.deadline(f)?;
-        Ok(self.ticks.added(below, deadline))
+        Ok(added(self.ticks, below, deadline))
     }
 
     fn floor(&self, f: u8, others: FlowSet) -> Result<Option<u32>, Refusal> {
         let below = self.rule.floor(f, others)?;
         let deadline = self.rule.deadline(f)?;
-        Ok(self.ticks.added(below, deadline))
+        Ok(added(self.ticks, below, deadline))
     }
 
     fn ceiling(&self, f: u8, others: FlowSet) -> Result<Option<u32>, Refusal> {
         let below = self.rule.ceiling(f, others)?;
         let deadline = self.rule.deadline(f)?;
-        Ok(self.ticks.added(below, deadline))
+        Ok(added(self.ticks, below, deadline))
     }
 
     fn bounds(&self, list: &[u8]) -> Result<Bounds, Refusal> {
@@ -68,7 +69,7 @@ pub impl<R: Rule> Rule for Reserve<R> as ReserveRule {
         let mut told = Bounds::none();
         for i in 0..below.count as usize {
             let deadline = self.rule.deadline(list[i])?;
-            match self.ticks.added(Some(below.ticks[i]), deadline) {
+            match added(self.ticks, Some(below.ticks[i]), deadline) {
                 Some(ticks) => told = told.more(ticks),
                 None => return Ok(told),
             }
