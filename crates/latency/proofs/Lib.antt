@@ -13,6 +13,7 @@ mod Settles
 mod Promised
 mod Filling
 mod Sharers
+pub mod Sheets
 mod Sums
 mod Loads
 mod LawsOfD

@@ -1,5 +1,7 @@
 // Any of the three rules, for a job that says by a letter which one it is.
-ghost use Rattle.latency.specs.AnyRules.{meaning-any};
+ghost use mathlib.Core.Path.{_≡_};
+ghost use Rattle.sheet.specs.Sheets.{flows-of};
+ghost use Rattle.latency.specs.AnyRules.{meaning-any, meaning-by};
 use crate::rule_d::DirectRule;
 use crate::rule_d::RuleD;
 use crate::rule_j::JitterRule;
@@ -10,6 +12,8 @@ use chip::Refusal;
 use rule::Bounds;
 use rule::FlowSet;
 use rule::Rule;
+use sheet::Letter;
+use sheet::Sheet;
 
 // A rule D, J or L.
 #[derive(Drop)]
@@ -17,6 +21,19 @@ pub enum AnyRule {
     D(RuleD),
     J(RuleJ),
     L(RuleL),
+}
+
+impl AnyRule {
+    // The rule that the letter names, on the flows of a sheet, which it uses up.
+    pub fn new(letter: Letter, sheet: Sheet) -> AnyRule
+        ensures { λ r. ⌜ meaning-any r ≡ meaning-by letter (flows-of sheet) ⌝ }
+    {
+        match letter {
+            Letter::D => AnyRule::D(RuleD::new(sheet)),
+            Letter::J => AnyRule::J(RuleJ::new(sheet)),
+            Letter::L => AnyRule::L(RuleL::new(sheet)),
+        }
+    }
 }
 
 pub impl Rule for AnyRule as OneOfThree {

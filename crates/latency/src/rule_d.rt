@@ -4,15 +4,13 @@ ghost use mathlib.Core.Bool.{true};
 ghost use lib.ListN.{length};
 ghost use Rattle.rule.specs.FlowSets.{marks-of, members};
 ghost use Rattle.rule.specs.Lists.{is-flow, within};
+ghost use Rattle.sheet.specs.Sheets.{flows-of};
 ghost use Rattle.latency.specs.Chips.{chip};
 ghost use Rattle.latency.specs.Rules.{bound-D, meaning-D};
 ghost use Rattle.latency.specs.Interference.{flow};
 ghost use Rattle.latency.specs.Promises.{equation-D, Told};
 ghost use Rattle.rule.specs.Questions.{asked-bound};
-ghost use Prim.Native.Nat.{_≤_};
-ghost use Rattle.latency.specs.Tables.{chip-of};
 use crate::traffic::Traffic;
-use chip::Flow;
 use chip::Refusal;
 use rule::Bounds;
 use rule::FlowSet;
@@ -20,6 +18,7 @@ use rule::Rule;
 use rule::is_distinct;
 use rule::is_proper;
 use rule::is_proper_set;
+use sheet::Sheet;
 
 impl Traffic {
     // The bound of flow f under the flows of a set: they interfere without interference jitter.
@@ -38,13 +37,12 @@ pub struct RuleD {
 }
 
 impl RuleD {
-    // Rule D on the first `count` flows of a table.
-    pub(crate) fn new(flows: [Flow; 20], count: u8) -> RuleD
-        requires { ⌜ 1 ≤ count ⌝ ∗ ⌜ count ≤ 20 ⌝ }
-        ensures { λ r. ⌜ chip (r .traffic) ≡ chip-of count flows ⌝ }
+    // Rule D on the flows of a sheet, which it uses up.
+    pub fn new(sheet: Sheet) -> RuleD
+        ensures { λ r. ⌜ meaning-D (chip (r .traffic)) ≡ meaning-D (flows-of sheet) ⌝ }
     {
         RuleD {
-            traffic: Traffic::new(flows, count),
+            traffic: Traffic::of(&sheet),
         }
     }
 }

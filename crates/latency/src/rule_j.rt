@@ -6,12 +6,12 @@ ghost use lib.ListN.{length};
 ghost use Rattle.rule.specs.FlowSets.{marks-of, members};
 ghost use Rattle.rule.specs.Lists.{is-flow, within, among};
 ghost use Rattle.rule.specs.Questions.{asked-bound};
+ghost use Rattle.sheet.specs.Sheets.{flows-of};
 ghost use Rattle.latency.specs.Chips.{chip};
 ghost use Rattle.latency.specs.Promises.{Told-J};
 ghost use Rattle.latency.specs.Rules.{ceiling-extra, ceiling-J, meaning-J};
-ghost use Rattle.latency.specs.Tables.{of-flow, chip-of};
+ghost use Rattle.latency.specs.Tables.{of-flow};
 use crate::traffic::Traffic;
-use chip::Flow;
 use chip::Refusal;
 use rule::Bounds;
 use rule::FlowSet;
@@ -19,6 +19,7 @@ use rule::Rule;
 use rule::is_distinct;
 use rule::is_proper;
 use rule::is_proper_set;
+use sheet::Sheet;
 
 impl Traffic {
     // The most interference jitter of flow j with respect to f, whatever the order of the set.
@@ -65,13 +66,12 @@ pub struct RuleJ {
 }
 
 impl RuleJ {
-    // Rule J on the first `count` flows of a table.
-    pub(crate) fn new(flows: [Flow; 20], count: u8) -> RuleJ
-        requires { ⌜ 1 ≤ count ⌝ ∗ ⌜ count ≤ 20 ⌝ }
-        ensures { λ r. ⌜ chip (r .traffic) ≡ chip-of count flows ⌝ }
+    // Rule J on the flows of a sheet, which it uses up.
+    pub fn new(sheet: Sheet) -> RuleJ
+        ensures { λ r. ⌜ meaning-J (chip (r .traffic)) ≡ meaning-J (flows-of sheet) ⌝ }
     {
         RuleJ {
-            traffic: Traffic::new(flows, count),
+            traffic: Traffic::of(&sheet),
         }
     }
 }

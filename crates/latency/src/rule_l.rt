@@ -6,14 +6,12 @@ ghost use Rattle.std.specs.shelf.Lists.{kept-by};
 ghost use Rattle.rule.specs.FlowSets.{marks-of, members};
 ghost use Rattle.rule.specs.Lists.{is-flow, within};
 ghost use Rattle.rule.specs.Questions.{asked-bound};
+ghost use Rattle.sheet.specs.Sheets.{flows-of};
 ghost use Rattle.latency.specs.Chips.{chip};
 ghost use Rattle.latency.specs.Interference.{flow};
 ghost use Rattle.latency.specs.Promises.{equation-L, Told};
 ghost use Rattle.latency.specs.Rules.{counts-L, bound-L, meaning-L};
-ghost use Prim.Native.Nat.{_≤_};
-ghost use Rattle.latency.specs.Tables.{chip-of};
 use crate::traffic::Traffic;
-use chip::Flow;
 use chip::Refusal;
 use rule::Bounds;
 use rule::FlowSet;
@@ -21,6 +19,7 @@ use rule::Rule;
 use rule::is_distinct;
 use rule::is_proper;
 use rule::is_proper_set;
+use sheet::Sheet;
 
 impl Traffic {
     // The flows of a set that share with flow f, or with a flow of the set that shares with f.
@@ -54,13 +53,12 @@ pub struct RuleL {
 }
 
 impl RuleL {
-    // Rule L on the first `count` flows of a table.
-    pub(crate) fn new(flows: [Flow; 20], count: u8) -> RuleL
-        requires { ⌜ 1 ≤ count ⌝ ∗ ⌜ count ≤ 20 ⌝ }
-        ensures { λ r. ⌜ chip (r .traffic) ≡ chip-of count flows ⌝ }
+    // Rule L on the flows of a sheet, which it uses up.
+    pub fn new(sheet: Sheet) -> RuleL
+        ensures { λ r. ⌜ meaning-L (chip (r .traffic)) ≡ meaning-L (flows-of sheet) ⌝ }
     {
         RuleL {
-            traffic: Traffic::new(flows, count),
+            traffic: Traffic::of(&sheet),
         }
     }
 }

@@ -11,6 +11,7 @@ use rule::FlowSet;
 
 mod asking;
 mod making;
+mod sheets;
 mod solving;
 
 // A chip of 1 to 20 flows; the set of a flow holds the flows that share with it.
