@@ -1,10 +1,15 @@
-// Lists a flow sheet in words: reads at most 1,024 bytes of standard input, and prints what the sheet says, or
-// "refused N at B".
+// Lists a flow sheet in words: reads at most 1,024 bytes of standard input, and prints what the sheet says and the
+// bounds that its own order would give, or "refused N at B".
 ghost use Prim.Native.Nat.{_≤_};
 ghost use Rattle.std.specs.Vec.{made};
 use chip::Flow;
 use chip::Route;
 use chip::Router;
+use latency::OneOfThree;
+use layers::precedence::PrecedenceRule;
+use layers::reserve::ReserveRule;
+use planner::JobRule;
+use rule::Rule;
 use sheet::Job;
 use sheet::Sheet;
 use std::error::AnyError;
@@ -131,6 +136,50 @@ fn print_job(rt: &LibcRuntime, job: &Job, len: usize) -> io::Result<()> {
     println!(rt, "{len} bytes accepted")
 }
 
+// Flow f stands on level f, under the flows before it: a line `level label bound`.
+fn print_bound(rt: &LibcRuntime, rule: &JobRule, f: u8, above: &[u8]) -> io::Result<()> {
+    let Ok(label) = rule.label(f) else {
+        return Ok(());
+    };
+    match rule.bound(f, above) {
+        Ok(Some(bound)) => println!(rt, "{f} {label} {bound}"),
+        _ => println!(rt, "{f} {label} none"),
+    }
+}
+
+// The bounds if the flows sent in the sheet's own order.
+fn print_bounds(rt: &LibcRuntime, rule: &JobRule) -> io::Result<()> {
+    let order = [
+        1,
+        2,
+        3,
+        4,
+        5,
+        6,
+        7,
+        8,
+        9,
+        10,
+        11,
+        12,
+        13,
+        14,
+        15,
+        16,
+        17,
+        18,
+        19,
+        20,
+    ];
+    println!(rt, "bounds in the sheet's order:")?;
+    for i in 0..20 {
+        if i < rule.flows() {
+            print_bound(rt, rule, i + 1, &order[0..i as usize])?;
+        }
+    }
+    Ok(())
+}
+
 // A refused sheet ends the program with status 1.
 fn main(rt: LibcRuntime) -> Result<(), AnyError> {
     let mut buf = [0u8; 1024];
@@ -138,6 +187,7 @@ fn main(rt: LibcRuntime) -> Result<(), AnyError> {
     match layout::read(&buf[0..len]) {
         Ok(job) => {
             print_job(&rt, &job, len)?;
+            print_bounds(&rt, &planner::rule_of(job))?;
             Ok(())
         }
         Err(fault) => {

@@ -1,0 +1,7 @@
+use Rattle.latency.specs.Chips.{chip}
+use Rattle.latency.proofs.Chips.{chip-some, chip-few}
+use Rattle.latency.proofs.LawsOfD.{lawful-D}
+use Rattle.latency.proofs.rule_d.DirectRule.the-impl.Needs as need
+
+pub lawful-law : need.lawful-law
+lawful-law r = lawful-D (chip (r .traffic)) (chip-some (r .traffic)) (chip-few (r .traffic))

@@ -1,0 +1,17 @@
+use mathlib.Core.Path.{_∙_}
+use native.Mathlib.Omega.{arith}
+use lib.ListN.{replicate}
+use Rattle.rule.specs.FlowSets.{marks-of}
+use Rattle.latency.specs.Chips.{chip}
+use Rattle.latency.specs.Interference.{direct}
+use Rattle.latency.specs.Rules.{none-extra}
+use Rattle.latency.proofs.Solved.{solved, no-jitter}
+use Rattle.latency.proofs.traffic.Traffic.plain_bound.Needs as need
+
+pub least-requires : need.least-requires
+least-requires c κs = (c .pre .0, (c .direct .ensures .flows, λ j. omega (arith, no-jitter j)))
+
+pub returns : need.returns
+returns c =
+    c .least .ensures .value
+    ∙ solved (chip (c .args .self .now)) (c .args .f) (marks-of (c .args .set)) (marks-of (c .direct .result)) (direct (chip (c .args .self .now)) (c .args .f)) (replicate 20 0) none-extra (c .direct .ensures .value) (λ j asked. no-jitter j)

@@ -1,0 +1,3 @@
+pub mod Reserves
+pub mod Pairs
+pub mod Held
