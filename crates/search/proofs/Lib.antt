@@ -1,0 +1,12 @@
+pub mod Chosen
+pub mod Sets
+pub mod Orders
+pub mod Passing
+pub mod Hopes
+pub mod Stands
+pub mod Counts
+pub mod Lawfully
+pub mod Gathering
+pub mod Tabled
+pub mod Heard
+pub mod Opening
