@@ -1,3 +1,4 @@
+-- Why `figure_count` meets its contract. Assumes nothing.
 use mathlib.Core.Path.{refl}
 use Rattle.chip.specs.Routes.{links, shares}
 use Rattle.rule.specs.Lists.{marks}

@@ -1,3 +1,4 @@
+-- Why `OneOfThree` keeps the laws of a rule. Assumes nothing.
 use Rattle.latency.specs.declared.any_rule.AnyRule.the-variants.{D, J, L}
 use Rattle.latency.specs.Chips.{chip}
 use Rattle.latency.proofs.Chips.{chip-some, chip-few}

@@ -1,3 +1,4 @@
+-- Why `DirectRule` keeps the laws of a rule. Assumes nothing.
 use Rattle.latency.specs.Chips.{chip}
 use Rattle.latency.proofs.Chips.{chip-some, chip-few}
 use Rattle.latency.proofs.LawsOfD.{lawful-D}

@@ -1,3 +1,4 @@
+-- Why `JitterRule` keeps the laws of a rule. Assumes nothing.
 use Rattle.latency.specs.Chips.{chip}
 use Rattle.latency.proofs.Chips.{chip-some, chip-few}
 use Rattle.latency.proofs.LawsOfJ.{lawful-J}

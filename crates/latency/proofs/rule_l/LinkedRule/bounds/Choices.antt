@@ -1,3 +1,4 @@
+-- What the loop of `LinkedRule::bounds` keeps. Assumes nothing.
 use mathlib.Core.Path.{_≡_}
 use lib.ListN.{take}
 use Rattle.rule.specs.FlowSets.{marks-of}

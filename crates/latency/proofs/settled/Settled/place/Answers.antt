@@ -1,3 +1,4 @@
+-- Why `Settled::place` meets its contract. Assumes nothing.
 use Prim.Native.Nat.{_-_}
 use Rattle.std.proofs.shelf.Lists.{length-set}
 use Rattle.latency.proofs.Jitters.{set-small}

@@ -1,3 +1,4 @@
+-- Why `Traffic::settle` ends. Assumes nothing.
 use Prim.Native.Nat.{_-_}
 use lib.ListN.{length}
 use Rattle.latency.proofs.traffic.Traffic.+settle.Given as given

@@ -1,3 +1,4 @@
+-- Why `Traffic::ceiling` meets its contract. Assumes nothing.
 use mathlib.Core.Path.{_∙_}
 use Rattle.rule.specs.FlowSets.{marks-of, members}
 use Rattle.latency.specs.Chips.{chip}

@@ -1,3 +1,4 @@
+-- Why `Traffic::count` meets its contract. Assumes nothing.
 use mathlib.Core.Path.{sym}
 use native.Mathlib.Omega.{arith}
 use Rattle.latency.proofs.Chips.{chip-length}

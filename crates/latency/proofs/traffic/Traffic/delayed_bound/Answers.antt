@@ -1,3 +1,4 @@
+-- Why `Traffic::delayed_bound` meets its contract. Assumes nothing.
 use mathlib.Core.Path.{sym, _∙_}
 use mathlib.Core.List.{List, reverse}
 use Prim.Native.Nat.{ℕ}

@@ -1,3 +1,4 @@
+-- Why `Traffic::delayed_bounds` meets its contract. Assumes nothing.
 use Rattle.latency.specs.Chips.{chip}
 use Rattle.latency.proofs.Settles.{settling-none, settled-told}
 use Rattle.latency.proofs.traffic.Traffic.delayed_bounds.Needs as need

@@ -1,3 +1,4 @@
+-- Why `Traffic::direct` meets its contract. Assumes nothing.
 use mathlib.Core.Path.{_≡_, sym, _∙_, ap}
 use mathlib.Core.Bool.{_&&_}
 use Prim.Native.Nat.{ℕ}

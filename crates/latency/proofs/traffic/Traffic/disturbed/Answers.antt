@@ -1,3 +1,4 @@
+-- Why `Traffic::disturbed` meets its contract. Assumes nothing.
 use mathlib.Core.Path.{sym, _∙_, ap, ap₂}
 use mathlib.Core.Bool.{_&&_, not}
 use mathlib.Core.List.{List}

@@ -1,3 +1,4 @@
+-- Why `Traffic::least` meets its contract. Assumes nothing.
 use mathlib.Core.Path.{sym, _∙_, subst}
 use mathlib.Core.List.{List}
 use Prim.Native.Nat.{ℕ, _+_}

@@ -1,3 +1,4 @@
+-- What the loop of `Traffic::least` keeps. Assumes nothing.
 use Prim.Native.Nat.{_-_, _≤_, suc}
 use Rattle.rule.specs.FlowSets.{marks-of}
 use Rattle.latency.specs.Chips.{chip}

@@ -1,3 +1,4 @@
+-- What the loop of `Traffic::linked` keeps. Assumes nothing.
 use mathlib.Core.Path.{_≡_}
 use mathlib.Core.Bool.{true}
 use Prim.Native.Nat.{ℕ}

@@ -1,3 +1,4 @@
+-- Why `Traffic::linked_bound` meets its contract. Assumes nothing.
 use mathlib.Core.Path.{_∙_}
 use native.Mathlib.Omega.{arith}
 use lib.ListN.{replicate}

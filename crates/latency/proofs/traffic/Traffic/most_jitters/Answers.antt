@@ -1,3 +1,4 @@
+-- Why `Traffic::most_jitters` meets its contract. Assumes nothing.
 use mathlib.Core.Path.{_≡_}
 use mathlib.Core.Bool.{true}
 use mathlib.Core.List.{List}

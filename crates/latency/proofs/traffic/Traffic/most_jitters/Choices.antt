@@ -1,3 +1,4 @@
+-- What the loop of `Traffic::most_jitters` keeps. Assumes nothing.
 use lib.ListN.{length}
 use Rattle.rule.specs.FlowSets.{marks-of, members}
 use Rattle.latency.specs.Chips.{chip}

@@ -1,3 +1,4 @@
+-- Why `Traffic::near` meets its contract. Assumes nothing.
 use native.Mathlib.Omega.{arith}
 use Rattle.latency.proofs.Chips.{chip-range, chip-near}
 use Rattle.latency.proofs.traffic.Traffic.near.Needs as need

@@ -1,3 +1,4 @@
+-- Why `Traffic::new` meets its contract. Assumes nothing.
 use mathlib.Core.Path.{refl, _∙_, ap}
 use native.Mathlib.Omega.{arith}
 use Rattle.latency.specs.Chips.{chip}

@@ -1,3 +1,4 @@
+-- Why `Traffic::under` meets its contract. Assumes nothing.
 use mathlib.Core.Path.{sym, _∙_, ap}
 use mathlib.Core.List.{List}
 use Rattle.chip.specs.declared.parameters.FlowParameters.{FlowParameters}

@@ -1,3 +1,4 @@
+-- Why `near_of` meets its contract. Assumes nothing.
 use native.Mathlib.Omega.{arith}
 use Rattle.std.proofs.shelf.Lists.{length-set}
 use Rattle.latency.specs.Tables.{routed}

@@ -1,3 +1,4 @@
+-- Why `routes_of` meets its contract. Assumes nothing.
 use mathlib.Core.Path.{refl, ap}
 use native.Mathlib.Omega.{arith}
 use Rattle.chip.specs.declared.parameters.FlowParameters.{FlowParameters}

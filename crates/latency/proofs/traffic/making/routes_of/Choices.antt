@@ -1,3 +1,4 @@
+-- What the loop of `routes_of` keeps. Assumes nothing.
 use mathlib.Core.Path.{_≡_}
 use mathlib.Core.List.{map}
 use lib.ListN.{length, take}

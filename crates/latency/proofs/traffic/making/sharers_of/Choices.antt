@@ -1,3 +1,4 @@
+-- What the loop of `sharers_of` keeps. Assumes nothing.
 use mathlib.Core.Path.{_≡_}
 use Prim.Native.Nat.{_+_}
 use Rattle.rule.specs.FlowSets.{marks-of}
