@@ -63,7 +63,8 @@ impl Traffic {
         ensures value { λ r. ⌜ r ≡ jitter-by (chip (now (self .entry))) (now (settled .entry)) f j ⌝ }
         ensures few { λ r. ⌜ r ≤ 1000000 ⌝ }
     {
-        if !self.disturbed(f, j, settled.over[j as usize - 1]) {
+        let over = settled.over[j as usize - 1];
+        if !self.disturbed(f, j, over) {
             return 0;
         }
         settled

@@ -25,7 +25,7 @@ pub returns-then-next-r : need.returns-then-next-r
 returns-then-next-r c =
     let xs : List Interferer = tabled (chip (c .args .self .now)) (c .args .extra .now) (marks-of (c .args .counted)) in
     let p = c .flow-p .result in
-    let here = climbed (p .latency) (p .deadline) xs (c .loop-r .r) (c .loop-r .inv .0) (c .loop-r-test .taken) (sym (c .demand-next .ensures .value) ∙ c .if-next-r .taken) in
+    let here = climbed (p .latency) (p .deadline) xs (c .loop-r .r) (c .loop-r .inv .0) (omega arith) (sym (c .demand-next .ensures .value) ∙ c .if-next-r .taken) in
     let told : Least (demand (flow (chip (c .args .self .now)) (c .args .f) .latency) xs) (flow (chip (c .args .self .now)) (c .args .f) .deadline) (Some (c .loop-r .r)) = subst (λ q. Least (demand (q .latency) xs) (q .deadline) (Some (c .loop-r .r))) (c .flow-p .ensures .value) here in
     record { value = as-least (flow (chip (c .args .self .now)) (c .args .f) .latency) (flow (chip (c .args .self .now)) (c .args .f) .deadline) xs (Some (c .loop-r .r)) told; least = told }
 
@@ -39,6 +39,6 @@ pub returns : need.returns
 returns c =
     let xs : List Interferer = tabled (chip (c .args .self .now)) (c .args .extra .now) (marks-of (c .args .counted)) in
     let p = c .flow-p .result in
-    let here = passed (p .latency) (p .deadline) xs (c .loop-r .r) (c .loop-r .inv .0) (c .loop-r-test .left) in
+    let here = passed (p .latency) (p .deadline) xs (c .loop-r .r) (c .loop-r .inv .0) (omega arith) in
     let told : Least (demand (flow (chip (c .args .self .now)) (c .args .f) .latency) xs) (flow (chip (c .args .self .now)) (c .args .f) .deadline) None = subst (λ q. Least (demand (q .latency) xs) (q .deadline) None) (c .flow-p .ensures .value) here in
     record { value = as-least (flow (chip (c .args .self .now)) (c .args .f) .latency) (flow (chip (c .args .self .now)) (c .args .f) .deadline) xs None told; least = told }
