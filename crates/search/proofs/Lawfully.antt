@@ -20,12 +20,12 @@ use Rattle.search.proofs.Stands.{Stands, start-stands, step-stands}
 use Rattle.search.proofs.Counts.{Due, start-due, step-due, enter-count, place-count, going-less, most-small}
 
 -- a placing of a walk that goes on counts one, and an ended walk stays as it is
-step-count : (m : Meaning) (s : State) → ended s ≡ false → count-of (step m s) ≡ suc (count-of s)
+pub step-count : (m : Meaning) (s : State) → ended s ≡ false → count-of (step m s) ≡ suc (count-of s)
 step-count m (going count sure untried below) e = place-count m (suc count) sure untried below (next m untried below)
 step-count m (found count order) e = absurd (both-ways true e refl)
 step-count m (nothing count) e = absurd (both-ways true e refl)
 
-step-ended : (m : Meaning) (s : State) → ended s ≡ true → step m s ≡ s
+pub step-ended : (m : Meaning) (s : State) → ended s ≡ true → step m s ≡ s
 step-ended m (going count sure untried below) e = absurd (both-ways false refl e)
 step-ended m (found count order) e = refl
 step-ended m (nothing count) e = refl
@@ -40,7 +40,7 @@ module _ (m : Meaning) (laws : Lawful m) where
   after-stands zero = start-stands m laws
   after-stands (suc k) = step-stands m laws (after m k) (after-stands k)
 
-  after-due : (k : ℕ) → Due m (after m k)
+  pub after-due : (k : ℕ) → Due m (after m k)
   unfolding after
   after-due zero = start-due m laws
   after-due (suc k) = step-due m laws (after m k) (after-stands k) (after-due k)

@@ -9,4 +9,9 @@ pub mod Lawfully
 pub mod Gathering
 pub mod Tabled
 pub mod Heard
-pub mod Opening
+pub mod Opened
+pub mod Stepping
+pub mod Advanced
+pub mod Answered
+pub mod Planned
+pub mod Kept

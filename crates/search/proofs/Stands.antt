@@ -225,7 +225,7 @@ module _ (m : Meaning) (laws : Lawful m) (count : ℕ) (sure : Bool) (untried : 
   abbrev order : List ℕ
   order = f ∷ placed below
 
-  order-distinct′ : distinct (m .flows) order ≡ true
+  pub order-distinct′ : distinct (m .flows) order ≡ true
   order-distinct′ = placed-distinct m laws (filled-with ∷ below) place-filled
 
   -- on level 1 the order is full

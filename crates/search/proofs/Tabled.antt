@@ -80,13 +80,13 @@ module _ (count : ℕ) (sure : Bool) (untried : List Bool) (placed : List ℕ) (
   end-moving k l = rw (drop-all k placed l, spent) refl
 
 -- what the move that is due tells
-due-open : (o : Outcome) (w : Walk) → due-by o w ≡ BackUp → o ≡ Open
+pub due-open : (o : Outcome) (w : Walk) → due-by o w ≡ BackUp → o ≡ Open
 due-open Open w e = refl
 due-open Order w e = let z : _≡_ {A = ℕ} 0 1 = cc in absurd (omega arith)
 due-open NoOrder w e = let z : _≡_ {A = ℕ} 0 1 = cc in absurd (omega arith)
 
 module _ (w : Walk) where
-  back-empty : due w ≡ BackUp → empty (untried-of w) ≡ true
+  pub back-empty : due w ≡ BackUp → empty (untried-of w) ≡ true
   back-empty e = each (empty (untried-of w)) (eqb (w .level) 1) (sym (ap (λ (o : Outcome). due-by o w) (due-open (w .outcome) w e)) ∙ e)
     where
       each : (b c : Bool) → cond b BackUp (cond c Test Descend) ≡ BackUp → b ≡ true

@@ -3,3 +3,8 @@ pub mod Walk
 pub mod WalkLaw
 pub mod Candidates
 pub mod Tables
+pub mod Searches
+pub mod Answers
+pub mod Plans
+pub mod Runs
+pub mod Promise

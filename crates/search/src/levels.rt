@@ -63,7 +63,7 @@ pub(crate) fn enter<R: Rule>(rule: &R, w: &mut Walk)
 }
 
 // The flows on all levels, level 1 first.
-fn order(w: &Walk) -> &[u8]
+pub(crate) fn order(w: &Walk) -> &[u8]
     requires { ⌜ Ranged (now w) ⌝ }
     ensures { λ r. ⌜ now r ≡ order-of (now (w .entry)) ⌝ }
 {

@@ -1,5 +1,5 @@
 -- Why `test` meets its contract. Assumes nothing.
-use Rattle.search.proofs.Opening.{tested-true, tested-false}
+use Rattle.search.proofs.Opened.{tested-true, tested-false}
 use Rattle.search.proofs.levels.test.Needs as need
 
 pub returns-then-told-w : need.returns-then-told-w
