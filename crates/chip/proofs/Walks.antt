@@ -1,12 +1,11 @@
 -- One step of a packet on its way, and the marks that it leaves. Assumes nothing.
-use Rattle.std.proofs.Common.{◌≡◌, ℕ, zero, suc, ◌+◌, ◌-◌, ◌*◌, ◌<◌, ◌≤◌, Bool, true, false, cond, ◌&&◌, eqb, ltb, leb, List, [], ◌∷◌, length, set, replicate, sym, refl, ap, ◌∙◌, subst, arith, length-set}
+use Rattle.std.proofs.Common.{◌≡◌, ℕ, suc, ◌+◌, ◌-◌, ◌<◌, Bool, true, List, length, set, refl, ◌∙◌, subst, arith, length-set}
 use Rattle.std.proofs.lemmas.Bool.Decides.{nat_tests}
 use Rattle.chip.specs.declared.parameters.Router.{Router}
 use Rattle.chip.specs.declared.parameters.FlowParameters.{FlowParameters}
-use Rattle.chip.specs.declared.port.Port.{Port}
-use Rattle.chip.specs.declared.port.Port.TheVariants.{In, Out, East, West, North, South}
+use Rattle.chip.specs.declared.port.Port.TheVariants.{In, Out}
 use Rattle.chip.specs.Flows.{on_mesh}
-use Rattle.chip.specs.Routes.{rank, link, gap, distance, onward, beyond, walk, links, marked, no_marks, route_marks}
+use Rattle.chip.specs.Routes.{link, distance, onward, beyond, walk, links, marked, no_marks, route_marks}
 
 -- a step brings a packet one nearer
 pub nearer : (here there : Router) (d : ℕ) → distance here there ≡ suc d → distance (beyond (onward here there) here) there ≡ d

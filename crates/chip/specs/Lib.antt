@@ -1,3 +1,4 @@
+pub mod Equality
 pub mod Refusals
 pub mod Flows
 pub mod Reserves

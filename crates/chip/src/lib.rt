@@ -1,4 +1,6 @@
 // The mesh chip: causes of refusal, routers, flows, and the routes that their packets take.
+#![tactic(auto)]
+
 pub mod flow;
 pub mod parameters;
 pub mod port;

@@ -1,6 +1,6 @@
 // A flow as it is written down: plain numbers, not yet held to any rule.
-ghost use Rattle.std.specs.Prelude.{◌≡◌, Decides, nat_eq};
-ghost use Rattle.std.specs.Ordering.{on, eq_of_both};
+ghost use Rattle.std.specs.Prelude.{◌≡◌, Decides};
+ghost use Rattle.chip.specs.Equality.{router_eq, flow_eq};
 ghost use Rattle.std.specs.Cmp.Rules.{comparing};
 ghost use Rattle.std.proofs.Common.{rules};
 
@@ -27,21 +27,27 @@ pub struct FlowParameters {
 }
 
 impl PartialEq for Router {
-    ghost eq = { eq_of_both (on (λ v. v.column) nat_eq) (on (λ v. v.row) nat_eq) };
+    ghost eq = { router_eq };
 
     ghost laws = { Prim.search (comparing, rules) };
 
-    fn eq(&self, other: &Router) -> bool {
+    fn eq(&self, other: &Router) -> bool
+        ensures computes { result ≡ router_eq self.now other.now }
+        ensures decides { Decides result (self.now ≡ other.now) }
+    {
         self.column == other.column && self.row == other.row
     }
 }
 
 impl PartialEq for FlowParameters {
-    ghost equals = { λ a b r. Decides r (a ≡ b) };
+    ghost eq = { flow_eq };
 
     ghost laws = { Prim.search (comparing, rules) };
 
-    fn eq(&self, other: &FlowParameters) -> bool {
+    fn eq(&self, other: &FlowParameters) -> bool
+        ensures computes { result ≡ flow_eq self.now other.now }
+        ensures decides { Decides result (self.now ≡ other.now) }
+    {
         self.label == other.label
             && self.period == other.period
             && self.deadline == other.deadline

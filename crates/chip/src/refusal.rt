@@ -1,5 +1,6 @@
 // The causes for which a call of the library is refused, each with its number.
-ghost use Rattle.std.specs.Prelude.{◌≡◌, Decides};
+ghost use Rattle.std.specs.Prelude.{◌≡◌, Decides, nat_eq};
+ghost use Rattle.std.specs.Ordering.{on};
 ghost use Rattle.chip.specs.Refusals.{number_of};
 ghost use Rattle.std.specs.Cmp.Rules.{comparing};
 ghost use Rattle.std.proofs.Common.{rules};
@@ -77,11 +78,14 @@ impl Refusal {
 }
 
 impl PartialEq for Refusal {
-    ghost equals = { λ a b r. Decides r (number_of a ≡ number_of b) };
+    ghost eq = { on number_of nat_eq };
 
     ghost laws = { Prim.search (comparing, rules) };
 
-    fn eq(&self, other: &Refusal) -> bool {
+    fn eq(&self, other: &Refusal) -> bool
+        ensures computes { result ≡ on number_of nat_eq self.now other.now }
+        ensures decides { Decides result (number_of self.now ≡ number_of other.now) }
+    {
         self.number() == other.number()
     }
 }

@@ -1,4 +1,6 @@
 // Worked figures of the rules and of the walk, as tables that hold of their definitions.
+#![tactic(auto)]
+
 ghost use Rattle.std.specs.Prelude.{◌≡◌, length};
 ghost use Rattle.figures.specs.Figures.{figures, searches, Hold, Ended};
 

@@ -1,4 +1,6 @@
 // The bytes that a program is given on its standard input, as far as a sheet can need them.
+#![tactic(auto)]
+
 ghost use Rattle.std.specs.Prelude.{◌≤◌, IfOk};
 
 use std::io;

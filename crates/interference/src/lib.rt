@@ -1,5 +1,7 @@
 // Interference on the mesh chip: the definitions of the rules D, J and L and what follows from them alone, that each
 // keeps the laws of a rule among it. Code that answers by these definitions stands in the crates above.
+#![tactic(auto)]
+
 ghost use Rattle.std.specs.Prelude.{◌≤◌, List, length};
 ghost use Rattle.chip.specs.declared.parameters.FlowParameters.{FlowParameters};
 ghost use Rattle.rule.specs.Laws.{Lawful};

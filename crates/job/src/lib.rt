@@ -1,4 +1,6 @@
 // The job of planning a sheet: a rule by its letter, the sheet, a reserve and pairs.
+#![tactic(auto)]
+
 pub mod job;
 mod pair_list;
 

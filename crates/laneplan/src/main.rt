@@ -1,5 +1,7 @@
 // Plans the traffic of a house: reads at most 1,024 bytes of standard input as a flow sheet, searches for an order with
 // at most 1,000,000 placings, and prints the plan, or "no order", "open" or "refused N at B".
+#![tactic(auto)]
+
 ghost use Rattle.std.specs.Prelude.{◌≤◌, length};
 
 use anyhow::anyhow;

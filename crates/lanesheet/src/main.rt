@@ -1,5 +1,7 @@
 // Lists a flow sheet in words: reads at most 1,024 bytes of standard input, and prints what the sheet says and the
 // bounds that its own order would give, or "refused N at B".
+#![tactic(auto)]
+
 ghost use Rattle.std.specs.Prelude.{◌≤◌};
 
 use anyhow::anyhow;

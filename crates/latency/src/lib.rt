@@ -2,6 +2,8 @@
 // a rule tells is the least whole number within the flow's deadline that solves the rule's equation; there is none
 // exactly if no number within the deadline solves it or, under rule J, a flow above has none. Each rule keeps the laws
 // of a rule.
+#![tactic(auto)]
+
 mod rule_d;
 mod rule_j;
 mod rule_l;

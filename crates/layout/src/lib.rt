@@ -1,4 +1,6 @@
 // The byte layout of a flow sheet: `read` makes a job of bytes, `write` lays a job out into bytes.
+#![tactic(auto)]
+
 mod entry;
 pub mod fault;
 mod page;

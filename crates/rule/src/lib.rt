@@ -1,4 +1,6 @@
 // What a rule is: sets of flows, the meaning of a rule, its laws, and the trait by which any rule is asked.
+#![tactic(auto)]
+
 pub mod bounds;
 pub mod flow_set;
 pub mod proper;

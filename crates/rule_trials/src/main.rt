@@ -1,5 +1,7 @@
 // Prints what the three rules answer on many sheets, bare and under both layers: a line for each sheet, letter and
 // kind, as docs/RULE-TRIALS.md has it. A second program, in C, prints the same table.
+#![tactic(auto)]
+
 mod draws;
 mod flows;
 mod jobs;

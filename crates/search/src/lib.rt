@@ -2,6 +2,8 @@
 // and asked for its outcome, its count of placings, the flow and bound on a level, its plan, and whether its plan is
 // that of another search. It follows the walk (crate walk), placing by placing. A list of calls on a search, with
 // the promise on all of them together, is crate runs.
+#![tactic(auto)]
+
 mod candidates;
 mod levels;
 mod moves;

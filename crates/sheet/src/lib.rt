@@ -1,4 +1,6 @@
 // What a planner hands in: a draft of flows, the sheet that it is closed into, the letter of a rule, and pairs of flows.
+#![tactic(auto)]
+
 pub mod draft;
 mod flow_list;
 pub mod letter;

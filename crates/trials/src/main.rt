@@ -1,5 +1,7 @@
 // Prints what the three rules answer on many sheets, bare and under both layers, and what the search finds: a line for
 // each sheet, letter and kind, as docs/TRIALS.md has it. A second program, in C, prints the same table.
+#![tactic(auto)]
+
 mod answers;
 mod draws;
 mod flows;

@@ -1,4 +1,6 @@
 // A rule of one's own, as an example: a chip without contention, on which no flow delays another.
+#![tactic(auto)]
+
 pub mod flow;
 pub mod uncontended;
 

@@ -1,4 +1,6 @@
 // The law of the walk, for every rule.
+#![tactic(auto)]
+
 ghost use Rattle.rule.specs.Laws.{Lawful};
 ghost use Rattle.rule.specs.Meaning.{Meaning};
 ghost use Rattle.walk.specs.WalkLaw.{WalkLaw};

@@ -1,14 +1,14 @@
-use Rattle.std.proofs.Common.{◌≡◌, true, arith, rules}
+use Rattle.std.proofs.Common.{◌≡◌, true, arith}
 use native.Mathlib.Nat.{sub-zero}
 use Rattle.std.proofs.lemmas.Bool.Decides.{nat_tests}
 use Rattle.chip.specs.Flows.{on_mesh}
-use Rattle.chip.proofs.Walks.{sets_out, goes_on, arrives}
+use Rattle.chip.proofs.Walks.{sets_out, goes_on}
 use Rattle.chip.proofs.route.Route.of.Goals as goal
 
 pub loop-step-init : goal.loop-step-init
 loop-step-init c =
     let inside : on_mesh c.args.flow.parameters.source ≡ true = grind (arith, nat_tests) in
-    simp (sub-zero, c.distance-step-end.ensures, c.no-marks-marks.ensures, c.link.ensures.value, c.parameters.ensures, c.parameters-2.ensures) (sets_out c.args.flow.parameters inside)
+    simp (sub-zero, c.distance-step-end.ensures, c.no_marks-marks.ensures, c.link.ensures.value, c.parameters.ensures, c.parameters-2.ensures) (sets_out c.args.flow.parameters inside)
 
 pub loop-step-preserved : goal.loop-step-preserved
 loop-step-preserved c =

@@ -1,4 +1,4 @@
-use Rattle.std.proofs.Common.{◌≡◌, ℕ, true, false, get_or, sym, ap, ◌∙◌, arith}
+use Rattle.std.proofs.Common.{◌≡◌, ℕ, false, get_or, sym, ap, ◌∙◌, arith}
 use Rattle.chip.specs.Routes.{among, links}
 use Rattle.chip.specs.declared.route.Route.{Route}
 use Rattle.chip.proofs.Marks.{flow_mark, flow_fits}
