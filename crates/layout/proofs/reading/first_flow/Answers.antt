@@ -8,9 +8,9 @@ use Rattle.layout.proofs.Phases.{flow_read}
 use Rattle.layout.proofs.Steps.{bad_head}
 use Rattle.layout.proofs.reading.first_flow.Goals as goal
 
-pub returns-in-err-parameters : goal.returns-in-err-parameters
-returns-in-err-parameters c =
-    let told = c.in-err-parameters.ensures in
+pub returns-in_err-parameters : goal.returns-in_err-parameters
+returns-in_err-parameters c =
+    let told = c.in_err-parameters.ensures in
     let p = err_from_is_err_and c.from-residual.result c.from-residual.ensures.1 in
     record {
       kept = told.kept.0;
@@ -19,13 +19,13 @@ returns-in-err-parameters c =
 
 pub returns-in-Flow : goal.returns-in-Flow
 returns-in-Flow c =
-    let told = c.in-ok-parameters.ensures in
+    let told = c.in_ok-parameters.ensures in
     let bytes = c.args.reader.now.bytes.now in
     let at = c.args.reader.now.at in
     record {
       kept = told.kept.0;
       cases = λ l.
-          flow_read bytes at c.entry.new.self.at l c.in-Flow.parameters c.entry.new.self.field c.new.result c.at-field.result told.kept.1
-          c.at-field.ensures c.new.ensures
+          flow_read bytes at c.entry.new.self.at l c.in-Flow.parameters c.entry.new.self.field c.new.result c.at_field.result told.kept.1
+          c.at_field.ensures c.new.ensures
           (subst (λ (e : Entry). Peeked FirstFlow bytes at c.entry.new.self.at e) c.in-Flow.is told.cases);
     }

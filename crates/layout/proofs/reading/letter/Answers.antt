@@ -12,9 +12,9 @@ use Rattle.layout.proofs.Phases.{letter_read}
 use Rattle.layout.proofs.Steps.{bad_head}
 use Rattle.layout.proofs.reading.letter.Goals as goal
 
-pub returns-in-err-byte : goal.returns-in-err-byte
-returns-in-err-byte c =
-    let told = c.in-err-byte.ensures in
+pub returns-in_err-byte : goal.returns-in_err-byte
+returns-in_err-byte c =
+    let told = c.in_err-byte.ensures in
     let p = err_from_is_err_and c.from-residual.result c.from-residual.ensures.1 in
     record {
       kept = told.kept.0;
@@ -23,13 +23,13 @@ returns-in-err-byte c =
 
 pub returns-in-Rule : goal.returns-in-Rule
 returns-in-Rule c =
-    let told = c.in-ok-byte.ensures in
+    let told = c.in_ok-byte.ensures in
     let bytes = c.args.reader.now.bytes.now in
     let at = c.args.reader.now.at in
     record {
       kept = told.kept.0;
       cases =
-          letter_read bytes at c.entry.new.self.at c.in-Rule.byte c.entry.new.self.field c.at-field.result told.kept.1
-          (c.at-field.ensures ∙ ap (placed c.entry.new.self.field) (c.ok-or.ensures.value ∙ ap (λ (o : Option Letter). ok_or o RuleLetter) c.from-char.ensures))
+          letter_read bytes at c.entry.new.self.at c.in-Rule.byte c.entry.new.self.field c.at_field.result told.kept.1
+          (c.at_field.ensures ∙ ap (placed c.entry.new.self.field) (c.ok_or.ensures.value ∙ ap (λ (o : Option Letter). ok_or o RuleLetter) c.from_char.ensures))
           (subst (λ (e : Entry). Peeked Rule bytes at c.entry.new.self.at e) c.in-Rule.is told.cases);
     }

@@ -9,7 +9,7 @@ use Rattle.layout.specs.Reading.{State, Reads}
 use Rattle.layout.proofs.Phases.{entry_read, entry_refused, head_refused, head_passed, end_read, trailing}
 use Rattle.layout.proofs.Steps.{peeked_tag}
 use Rattle.layout.proofs.reading.pairs.Goals as goal
-use Rattle.layout.proofs.reading.pairs.Goals.{In-ok-add-pair, In-Pair}
+use Rattle.layout.proofs.reading.pairs.Goals.{In_ok-add_pair, In-Pair}
 
 -- the pair stands next
 this_pair : (c : In-Pair) (from : State) →
@@ -18,20 +18,20 @@ this_pair : (c : In-Pair) (from : State) →
 this_pair c from u =
     subst (λ (e : Entry). Underway from c.args.reader.now.bytes.now c.loop-next.reader.field c.loop-next.reader.at (contents c.loop-next.job) e) c.in-Pair.is (c.loop-next.invariant.2 from u)
 
-pub returns-in-err-add-pair : goal.returns-in-err-add-pair
-returns-in-err-add-pair c from u w =
-    let told = c.in-err-add-pair.ensures in
+pub returns-in_err-add_pair : goal.returns-in_err-add_pair
+returns-in_err-add_pair c from u w =
+    let told = c.in_err-add_pair.ensures in
     let p = err_from_is_err_and c.from-residual.result c.from-residual.ensures.1 in
     let r = c.loop-next.reader in
     rw (p.1, p.2)
-    (entry_refused from c.args.reader.now.bytes.now r.field r.at (contents c.loop-next.job) (entry.Pair c.in-Pair.pair) (this_pair (goal.at.returns-in-err-add-pair c).In-Pair from u) _ (λ s. told.0) told.1)
+    (entry_refused from c.args.reader.now.bytes.now r.field r.at (contents c.loop-next.job) (entry.Pair c.in-Pair.pair) (this_pair (goal.at.returns-in_err-add_pair c).In-Pair from u) _ (λ s. told.0) told.1)
 
 -- once the pair is added, it is read
-read_pair : (c : In-ok-add-pair) (from : State) →
+read_pair : (c : In_ok-add_pair) (from : State) →
     Underway from c.args.reader.now.bytes.now c.args.reader.now.field c.args.reader.now.at (contents c.args.job.now) c.args.next →
-    Reads from (at_byte (part_of Pairs (contents c.add-pair.new.job)) c.args.reader.now.bytes.now c.loop-next.reader.at)
+    Reads from (at_byte (part_of Pairs (contents c.add_pair.new.job)) c.args.reader.now.bytes.now c.loop-next.reader.at)
 read_pair c from u =
-    let told = c.in-ok-add-pair.ensures in
+    let told = c.in_ok-add_pair.ensures in
     let r = c.loop-next.reader in
     let bytes = c.args.reader.now.bytes.now in
     subst (λ (d : Contents). Reads from (at_byte (part_of Pairs d) bytes r.at)) (sym told.1)
@@ -39,31 +39,31 @@ read_pair c from u =
     (subst (λ (e : Entry). Underway from bytes r.field r.at (contents c.loop-next.job) e) c.in-Pair.is (c.loop-next.invariant.2 from u))
     Pairs (with_last c.in-Pair.pair (contents c.loop-next.job)) (λ s. told.0) (λ s. refl))
 
-pub returns-in-err-next : goal.returns-in-err-next
-returns-in-err-next c from u w =
-    let told = c.in-err-next.ensures in
-    let p = err_from_is_err_and c.from-residual-in-err-next.result c.from-residual-in-err-next.ensures.1 in
+pub returns-in_err-next : goal.returns-in_err-next
+returns-in_err-next c from u w =
+    let told = c.in_err-next.ensures in
+    let p = err_from_is_err_and c.from-residual-in_err-next.result c.from-residual-in_err-next.ensures.1 in
     let r = c.loop-next.reader in
     rw (p.1, p.2)
-    (head_refused from c.args.reader.now.bytes.now r.bytes.now r.at Pairs (contents c.add-pair.new.job) c.loop-next.invariant.0
-    (read_pair (goal.at.returns-in-err-next c).In-ok-add-pair from u) _ refl told.cases.0 told.cases.1)
+    (head_refused from c.args.reader.now.bytes.now r.bytes.now r.at Pairs (contents c.add_pair.new.job) c.loop-next.invariant.0
+    (read_pair (goal.at.returns-in_err-next c).In_ok-add_pair from u) _ refl told.cases.0 told.cases.1)
 
 pub loop-next-preserved : goal.loop-next-preserved
 loop-next-preserved c =
-    let told = c.in-ok-next.ensures in
+    let told = c.in_ok-next.ensures in
     let r = c.loop-next.reader in (
       told.kept.0 ∙ c.loop-next.invariant.0,
       (λ _. peeked_tag told.cases),
       λ from u.
-          head_passed from c.args.reader.now.bytes.now r.bytes.now r.at Pairs (contents c.add-pair.new.job) c.loop-next.invariant.0
-          (read_pair (goal.at.loop-next-preserved c).In-ok-add-pair from u) c.entry.new.self.field c.entry.new.self.at c.in-ok-next.next told.kept.1 told.cases,
+          head_passed from c.args.reader.now.bytes.now r.bytes.now r.at Pairs (contents c.add_pair.new.job) c.loop-next.invariant.0
+          (read_pair (goal.at.loop-next-preserved c).In_ok-add_pair from u) c.entry.new.self.field c.entry.new.self.at c.in_ok-next.next told.kept.1 told.cases,
     )
 
 pub returns : goal.returns
 returns c from u w =
     let r = c.loop-next.reader in
     let bytes = c.args.reader.now.bytes.now in
-    let done = end_read from bytes r.field r.at (contents c.loop-next.job) c.loop-next.next (c.loop-next.invariant.2 from u) (c.loop-next.invariant.1 w) c.in-default.not-Pair in
+    let done = end_read from bytes r.field r.at (contents c.loop-next.job) c.loop-next.next (c.loop-next.invariant.2 from u) (c.loop-next.invariant.1 w) c.in_default.not-Pair in
     MatchResult-weaker c.finish.result c.finish.ensures.cases
     (λ _ e. subst (λ (n : ℕ). Reads from (at_byte (part_of Done (contents c.loop-next.job)) bytes n)) (e ∙ ap length c.loop-next.invariant.0) done)
     (λ f e. trailing from bytes r.field r.at (contents c.loop-next.job) f done (omega (arith, e.0, ap length c.loop-next.invariant.0)) e.1)

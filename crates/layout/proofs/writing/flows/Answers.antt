@@ -9,7 +9,7 @@ use Rattle.layout.specs.Cursor.{Put}
 use Rattle.layout.specs.Layout.{flow_bytes}
 use Rattle.layout.proofs.Laying.{laid_more, laid_all, entry_at}
 use Rattle.layout.proofs.writing.flows.Goals as goal
-use Rattle.layout.proofs.writing.flows.Goals.{in-Some, in-default}
+use Rattle.layout.proofs.writing.flows.Goals.{in-Some, in_default}
 
 -- a flow that said something is there
 there : (o : Option Flow) (p : FlowParameters) → said_of o ≡ Some p → (f : Flow) × (o ≡ Some f)
@@ -27,10 +27,10 @@ loop-i-preserved c =
       | in-Some w ↦ subst (λ (p : Page). (take p.count p.bytes ≡ take start.count start.bytes ++ flat_map flow_bytes (take (i + 1) ps)) × (p.count ≡ start.count + 25 * (i + 1))) (sym w.page-is)
           (laid_more flow_bytes 25 ps i w.parameters.result (take start.count start.bytes) (take before.count before.bytes) _ start.count before.count _
           (sym told ∙ ap said_of w.in-Some.is ∙ ap Some (sym w.parameters.ensures)) refl c.loop-i.invariant w.entry.ensures)
-      | in-default w ↦
+      | in_default w ↦
           let x = entry_at ps i (omega (arith, c.count-i-end.ensures)) in
           let y = there c.flow.result x.0 (told ∙ x.1) in
-          absurd (w.in-default.not-Some y.0 y.1)
+          absurd (w.in_default.not-Some y.0 y.1)
     ]
 
 pub returns : goal.returns

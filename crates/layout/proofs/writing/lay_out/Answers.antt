@@ -11,7 +11,7 @@ use Rattle.layout.specs.declared.page.Page.{Page}
 use Rattle.layout.specs.Layout.{entry_bytes, flow_bytes, pair_bytes, reserve_bytes}
 use Rattle.layout.proofs.Laying.{no_ticks, few_flows, few_pairs}
 use Rattle.layout.proofs.writing.lay_out.Goals as goal
-use Rattle.layout.proofs.writing.lay_out.Goals.{Joined-reserve, in-Some, in-default}
+use Rattle.layout.proofs.writing.lay_out.Goals.{Joined-reserve, in-Some, in_default}
 
 abbrev laid : Page → List ℕ
 laid p = take p.count p.bytes
@@ -25,7 +25,7 @@ room c =
     let so_far : c.flows.new.page.count ≤ 504 = omega (arith, c.flows.ensures.count, c.entry.ensures.count, c.blank-page.ensures.1, few_flows c.args.job.now, ap length c.sheet.ensures) in
     elim c.match-reserve.branch [
       | in-Some w ↦ omega (arith, so_far, ap (λ (p : Page). p.count) w.page-is, w.entry-in-Some.ensures.count)
-      | in-default w ↦ omega (arith, so_far, ap (λ (p : Page). p.count) w.page-is)
+      | in_default w ↦ omega (arith, so_far, ap (λ (p : Page). p.count) w.page-is)
     ]
 
 pub pairs-requires : goal.pairs-requires
@@ -38,8 +38,8 @@ pub returns : goal.returns
 returns c =
     let j = contents c.args.job.now in
     let rule : laid c.entry.new.self ≡ entry_bytes (entry.Rule (letter_code j.letter)) =
-    c.entry.ensures.laid ∙ ap (λ (bs : List ℕ). bs ++ entry_bytes (entry.Rule c.as-char.result)) c.blank-page.ensures.0
-    ∙ ap (λ (n : ℕ). entry_bytes (entry.Rule n)) (c.as-char.ensures ∙ ap letter_code c.letter.ensures) in
+    c.entry.ensures.laid ∙ ap (λ (bs : List ℕ). bs ++ entry_bytes (entry.Rule c.as_char.result)) c.blank-page.ensures.0
+    ∙ ap (λ (n : ℕ). entry_bytes (entry.Rule n)) (c.as_char.ensures ∙ ap letter_code c.letter.ensures) in
     let flows : laid c.flows.new.page ≡ entry_bytes (entry.Rule (letter_code j.letter)) ++ flat_map flow_bytes j.flows =
     c.flows.ensures.laid ∙ ap (λ (bs : List ℕ). bs ++ flat_map flow_bytes (flows_of c.sheet.result.now)) rule ∙ ap (λ (ps : List FlowParameters). entry_bytes (entry.Rule (letter_code j.letter)) ++ flat_map flow_bytes ps) c.sheet.ensures in
     let reserve : laid c.match-reserve.page ≡ laid c.flows.new.page ++ reserve_bytes j.reserve =
@@ -47,8 +47,8 @@ returns c =
       | in-Some w ↦ ap laid w.page-is ∙ w.entry-in-Some.ensures.laid
           ∙ ap (λ (n : ℕ). laid c.flows.new.page ++ entry_bytes (entry.Reserve n)) w.count.ensures
           ∙ ap (λ (o : Option ℕ). laid c.flows.new.page ++ reserve_bytes o) (sym (ap ticks_of w.in-Some.is) ∙ c.reserve.ensures)
-      | in-default w ↦ ap laid w.page-is ∙ sym (append-nil (laid c.flows.new.page))
-          ∙ ap (λ (o : Option ℕ). laid c.flows.new.page ++ reserve_bytes o) (sym (no_ticks c.reserve.result w.in-default.not-Some) ∙ c.reserve.ensures)
+      | in_default w ↦ ap laid w.page-is ∙ sym (append-nil (laid c.flows.new.page))
+          ∙ ap (λ (o : Option ℕ). laid c.flows.new.page ++ reserve_bytes o) (sym (no_ticks c.reserve.result w.in_default.not-Some) ∙ c.reserve.ensures)
     ] in
     let pairs : laid c.pairs.new.page ≡ entry_bytes (entry.Rule (letter_code j.letter)) ++ flat_map flow_bytes j.flows ++ reserve_bytes j.reserve ++ flat_map pair_bytes j.pairs =
     c.pairs.ensures.laid ∙ ap (λ (bs : List ℕ). bs ++ flat_map pair_bytes j.pairs) (reserve ∙ ap (λ (bs : List ℕ). bs ++ reserve_bytes j.reserve) flows) in

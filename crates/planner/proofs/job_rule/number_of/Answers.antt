@@ -7,16 +7,16 @@ use Rattle.interference.specs.Interference.{no_flow}
 use Rattle.interference.proofs.Sheets.{sheet_range, not_missing}
 use Rattle.planner.proofs.Places.{place_here, place_further, place_past}
 use Rattle.planner.proofs.job_rule.number_of.Goals as goal
-use Rattle.planner.proofs.job_rule.number_of.Goals.{in-Some+else-label-parameters, in-default}
+use Rattle.planner.proofs.job_rule.number_of.Goals.{in-Some+else-label-parameters, in_default}
 
 pub loop-i-init : goal.loop-i-init
 loop-i-init c = zero-add _
 
-pub overflow-cast-result : goal.overflow-cast-result
-overflow-cast-result c = omega (arith, sheet_range c.args.sheet.now)
+pub overflow_cast-result : goal.overflow_cast-result
+overflow_cast-result c = omega (arith, sheet_range c.args.sheet.now)
 
-pub overflow-add-result : goal.overflow-add-result
-overflow-add-result c = omega (arith, sheet_range c.args.sheet.now)
+pub overflow_add-result : goal.overflow_add-result
+overflow_add-result c = omega (arith, sheet_range c.args.sheet.now)
 
 pub returns-then-label-parameters : goal.returns-then-label-parameters
 returns-then-label-parameters c =
@@ -33,14 +33,14 @@ loop-i-preserved c =
       | in-Some+else-label-parameters w ↦
           place_further c.args.label ps c.loop-i.i w.in-Some.flow.parameters (omega arith) (sym (ap said_of w.in-Some.is) ∙ c.flow.ensures)
           (λ e. w.if-label-parameters.false (e ∙ sym (ap (λ (p : FlowParameters). p.label) w.parameters.ensures))) c.loop-i.invariant
-      | in-default w ↦ absurd (not_missing ps c.loop-i.i no_flow c.flow.result (omega arith) c.flow.ensures w.in-default.is)
+      | in_default w ↦ absurd (not_missing ps c.loop-i.i no_flow c.flow.result (omega arith) c.flow.ensures w.in_default.is)
     ]
 
-pub overflow-cast-result-2 : goal.overflow-cast-result-2
-overflow-cast-result-2 c = omega (arith, sheet_range c.args.sheet.now)
+pub overflow_cast-result-2 : goal.overflow_cast-result-2
+overflow_cast-result-2 c = omega (arith, sheet_range c.args.sheet.now)
 
-pub overflow-add-result-2 : goal.overflow-add-result-2
-overflow-add-result-2 c = omega (arith, sheet_range c.args.sheet.now)
+pub overflow_add-result-2 : goal.overflow_add-result-2
+overflow_add-result-2 c = omega (arith, sheet_range c.args.sheet.now)
 
 pub returns : goal.returns
 returns c =

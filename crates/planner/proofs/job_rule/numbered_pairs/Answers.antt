@@ -10,7 +10,7 @@ use Rattle.precedence.specs.declared.pair.Pair.{Pair}
 use Rattle.layout.proofs.Laying.{entry_at, few_pairs}
 use Rattle.planner.specs.JobRules.{numbered}
 use Rattle.planner.proofs.job_rule.numbered_pairs.Goals as goal
-use Rattle.planner.proofs.job_rule.numbered_pairs.Goals.{in-Some, in-default}
+use Rattle.planner.proofs.job_rule.numbered_pairs.Goals.{in-Some, in_default}
 
 -- one more entry of a table that holds the images of a list's entries
 mapped_more : {X Y : Type 0} (f : X → Y) (ys : List Y) (xs : List X) (i : ℕ) (x : X) → i < length ys → i < length xs → slice_get xs i ≡ Some x → take i ys ≡ map f (take i xs) → take (i + 1) (set ys i (f x)) ≡ map f (take (i + 1) xs)
@@ -43,7 +43,7 @@ loop-i-preserved c =
             ap (λ (p : Pair). take (i + 1) (set c.loop-i.pairs i p)) one
                 ∙ mapped_more (numbered fs) c.loop-i.pairs qs i q (omega arith) (omega arith) (sym c.pair.ensures ∙ w.in-Some.is) c.loop-i.invariant.1,
           )
-      | in-default w ↦ let x = entry_at qs i (omega arith) in absurd (w.in-default.not-Some x.0 (c.pair.ensures ∙ x.1))
+      | in_default w ↦ let x = entry_at qs i (omega arith) in absurd (w.in_default.not-Some x.0 (c.pair.ensures ∙ x.1))
     ]
 
 pub returns : goal.returns

@@ -16,22 +16,22 @@ use Rattle.planner.proofs.job_rule.rule_of.Goals as goal
 pub returns : goal.returns
 returns c =
     let j = contents c.args.job in
-    let below : c.with-pairs.result.rule ≡ c.new.result = c.with-pairs.ensures.below ∙ c.new-rule-2.ensures.0 in
-    let named : meaning_any c.new-rule.result ≡ meaning_by j.letter j.flows = c.new-rule.ensures ∙ ap₂ meaning_by c.letter.ensures c.into-sheet.ensures in
-    let rule : meaning_any c.with-pairs.result.rule.rule ≡ meaning_by j.letter j.flows =
+    let below : c.with_pairs.result.rule ≡ c.new.result = c.with_pairs.ensures.below ∙ c.new-rule-2.ensures.0 in
+    let named : meaning_any c.new-rule.result ≡ meaning_by j.letter j.flows = c.new-rule.ensures ∙ ap₂ meaning_by c.letter.ensures c.into_sheet.ensures in
+    let rule : meaning_any c.with_pairs.result.rule.rule ≡ meaning_by j.letter j.flows =
     ap (λ (r : Reserve AnyRule). meaning_any r.rule) below ∙ ap meaning_any c.new.ensures.0 ∙ named
     in
     let flows : (meaning_any c.new-rule-2.result.rule.rule).flows ≡ length j.flows =
-    ap (λ (r : Reserve AnyRule). (meaning_any r.rule).flows) (sym c.with-pairs.ensures.below) ∙ ap (λ (m : Meaning). m.flows) rule ∙ letter_flows j.letter j.flows
+    ap (λ (r : Reserve AnyRule). (meaning_any r.rule).flows) (sym c.with_pairs.ensures.below) ∙ ap (λ (m : Meaning). m.flows) rule ∙ letter_flows j.letter j.flows
     in
-    let count : c.pair-count-count.result - 0 ≡ length j.pairs = omega arith in
-    let given : take (c.pair-count-count.result - 0) c.numbered-pairs-pairs.result ≡ map (numbered j.flows) j.pairs =
-    ap (λ (n : ℕ). take n c.numbered-pairs-pairs.result) count ∙ c.numbered-pairs-pairs.ensures
+    let count : c.pair_count-count.result - 0 ≡ length j.pairs = omega arith in
+    let given : take (c.pair_count-count.result - 0) c.numbered_pairs-pairs.result ≡ map (numbered j.flows) j.pairs =
+    ap (λ (n : ℕ). take n c.numbered_pairs-pairs.result) count ∙ c.numbered_pairs-pairs.ensures
     in
-    judged_job j c.with-pairs.result
-    (c.with-pairs.ensures.held
-    ∙ ap₂ (λ (n : ℕ) (held : List Pair). taken n held (take (c.pair-count-count.result - 0) c.numbered-pairs-pairs.result)) flows c.new-rule-2.ensures.1
+    judged_job j c.with_pairs.result
+    (c.with_pairs.ensures.held
+    ∙ ap₂ (λ (n : ℕ) (held : List Pair). taken n held (take (c.pair_count-count.result - 0) c.numbered_pairs-pairs.result)) flows c.new-rule-2.ensures.1
     ∙ ap (taken (length j.flows) []) given
     ∙ offered j.flows [] j.pairs c.args.job.known (omega (arith, few_pairs c.args.job)))
-    (ap (λ (r : Reserve AnyRule). r.ticks.count) below ∙ ap (λ (t : Ticks). t.count) c.new.ensures.1 ∙ c.reserve-of-reserve.ensures)
+    (ap (λ (r : Reserve AnyRule). r.ticks.count) below ∙ ap (λ (t : Ticks). t.count) c.new.ensures.1 ∙ c.reserve_of-reserve.ensures)
     rule

@@ -13,9 +13,9 @@ returns g c =
     let m = g.R.Rule.meaning c.args.rule.now in
     let laws = g.met.R.Rule.lawful c.args.rule.now in
     let w = c.args.w.now in
-    let free = marks_of c.free-flows-free.result in
-    let is = c.free-flows-free.ensures in
-    let sized = marks_of_length c.free-flows-free.result in
+    let free = marks_of c.free_flows-free.result in
+    let is = c.free_flows-free.ensures in
+    let sized = marks_of_length c.free_flows-free.result in
     entered m w c.requires c.settled-opened.result.set c.settled-opened.result.sure c.gathered-floors.result.slack
     (λ e. subst (λ (s : List Bool). Row m s c.gathered-floors.result.slack) is
     (floor_row m laws free sized (free_flows m w free c.requires e is) c.gathered-floors.result c.gathered-floors.ensures))

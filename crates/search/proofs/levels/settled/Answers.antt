@@ -11,19 +11,19 @@ returns-then-not-sure g c =
     λ only e.
     let m = g.R.Rule.meaning c.args.rule.now in
     let free = marks_of c.args.free in
-    let by-floor = ap (λ (b : Bool). b && not (empty (with_ceiling m free))) c.if-not-sure.true in
-    (e ∙ opened_by_floor m c.args.sure free by-floor, sym by-floor)
+    let by_floor = ap (λ (b : Bool). b && not (empty (with_ceiling m free))) c.if-not-sure.true in
+    (e ∙ opened_by_floor m c.args.sure free by_floor, sym by_floor)
 
-pub returns-then-is-empty : goal.returns-then-is-empty
-returns-then-is-empty g c =
+pub returns-then-is_empty : goal.returns-then-is_empty
+returns-then-is_empty g c =
     λ only e.
     let m = g.R.Rule.meaning c.args.rule.now in
     let free = marks_of c.args.free in
     let kept = c.gathered-ceilings.ensures.kept ∙ ceilings_kept m (g.met.R.Rule.lawful c.args.rule.now) free (marks_of_length c.args.free) only in
-    let none = sym (ap empty kept) ∙ sym c.is-empty.ensures ∙ c.if-is-empty.true in
-    let by-floor =
+    let none = sym (ap empty kept) ∙ sym c.is_empty.ensures ∙ c.if-is_empty.true in
+    let by_floor =
     ap (λ (b : Bool). b && not (empty (with_ceiling m free))) c.if-not-sure.false ∙ ap not none in
-    (e ∙ opened_by_floor m c.args.sure free by-floor, sym by-floor)
+    (e ∙ opened_by_floor m c.args.sure free by_floor, sym by_floor)
 
 pub returns : goal.returns
 returns g c =
@@ -32,7 +32,7 @@ returns g c =
     let laws = g.met.R.Rule.lawful c.args.rule.now in
     let free = marks_of c.args.free in
     let kept = c.gathered-ceilings.ensures.kept ∙ ceilings_kept m laws free (marks_of_length c.args.free) only in
-    let some = sym (ap empty kept) ∙ sym c.is-empty.ensures ∙ c.if-is-empty.false in
+    let some = sym (ap empty kept) ∙ sym c.is_empty.ensures ∙ c.if-is_empty.false in
     let by_ceiling =
     ap (λ (b : Bool). b && not (empty (with_ceiling m free))) c.if-not-sure.false ∙ ap not some in (
       opened_by_ceiling m c.args.sure free c.chosen-one.result (marks_of c.none.result) (marks_of c.with.result) by_ceiling

@@ -5,8 +5,8 @@ use Rattle.search.proofs.levels.test.Goals as goal
 
 pub returns-then-told-w : goal.returns-then-told-w
 returns-then-told-w g c =
-    tested_true (g.R.Rule.meaning c.args.rule.now) c.args.w.now c.requires c.told-bounds-told.result c.told-bounds-told.ensures (omega (arith, c.if-told-w.true))
+    tested_true (g.R.Rule.meaning c.args.rule.now) c.args.w.now c.requires c.told_bounds-told.result c.told_bounds-told.ensures (omega (arith, c.if-told-w.true))
 
 pub returns-else-told-w : goal.returns-else-told-w
 returns-else-told-w g c =
-    tested_false (g.R.Rule.meaning c.args.rule.now) c.args.w.now c.requires c.told-bounds-told.result c.told-bounds-told.ensures (λ e. omega (arith, c.if-told-w.false, e))
+    tested_false (g.R.Rule.meaning c.args.rule.now) c.args.w.now c.requires c.told_bounds-told.result c.told_bounds-told.ensures (λ e. omega (arith, c.if-told-w.false, e))

@@ -40,7 +40,7 @@ returns c =
       ranged = i.0;
       same = i.1;
       lower = i.2;
-      stands = λ o. stay_stands w (i.3 ∙ o) (λ e. c.in-default.not-BackUp (c.due.ensures ∙ e)) ∙ i.4 o;
+      stands = λ o. stay_stands w (i.3 ∙ o) (λ e. c.in_default.not-BackUp (c.due.ensures ∙ e)) ∙ i.4 o;
       kept_order = λ o. i.3 ∙ o;
       was_order = λ o. sym i.3 ∙ o;
     }

@@ -16,6 +16,6 @@ returns c =
       untried = put_untried w c.requires d c.without.result f (put_choice w c.requires d f c.chosen-f.ensures) c.without.ensures;
       slack = refl;
       bounds = refl;
-      count = c.saturating-add-w.ensures;
+      count = c.saturating_add-w.ensures;
       outcome = refl;
     }

@@ -16,9 +16,9 @@ returns-in-Descend g c =
     let w = c.args.w.now in
     let e = sym c.in-Descend.ensures in
     record {
-      ranged = c.move-on.ensures.ranged;
-      walked = λ v. descended_walked m laws w c.requires v (descend_open w e) c.put.new.w c.put.ensures (descend_level w e) c.enter.new.w c.enter.ensures c.move-on.new.w c.move-on.ensures;
-      stands = λ v. descended_stands m laws w c.requires v (descend_open w e) c.put.new.w c.put.ensures (descend_level w e) c.enter.new.w c.enter.ensures c.move-on.new.w c.move-on.ensures;
+      ranged = c.move_on.ensures.ranged;
+      walked = λ v. descended_walked m laws w c.requires v (descend_open w e) c.put.new.w c.put.ensures (descend_level w e) c.enter.new.w c.enter.ensures c.move_on.new.w c.move_on.ensures;
+      stands = λ v. descended_stands m laws w c.requires v (descend_open w e) c.put.new.w c.put.ensures (descend_level w e) c.enter.new.w c.enter.ensures c.move_on.new.w c.move_on.ensures;
     }
 
 pub returns-in-Test : goal.returns-in-Test
@@ -28,9 +28,9 @@ returns-in-Test g c =
     let w = c.args.w.now in
     let e = sym c.in-Test.ensures in
     record {
-      ranged = c.move-on-in-Test.ensures.ranged;
-      walked = λ v. tried_walked m laws w c.requires v (test_open w e) c.put-in-Test.new.w c.put-in-Test.ensures (test_level w e) c.test.new.w c.test.ensures c.move-on-in-Test.new.w c.move-on-in-Test.ensures;
-      stands = λ v. tried_stands m laws w c.requires v (test_open w e) c.put-in-Test.new.w c.put-in-Test.ensures (test_level w e) c.test.new.w c.test.ensures c.move-on-in-Test.new.w c.move-on-in-Test.ensures;
+      ranged = c.move_on-in-Test.ensures.ranged;
+      walked = λ v. tried_walked m laws w c.requires v (test_open w e) c.put-in-Test.new.w c.put-in-Test.ensures (test_level w e) c.test.new.w c.test.ensures c.move_on-in-Test.new.w c.move_on-in-Test.ensures;
+      stands = λ v. tried_stands m laws w c.requires v (test_open w e) c.put-in-Test.new.w c.put-in-Test.ensures (test_level w e) c.test.new.w c.test.ensures c.move_on-in-Test.new.w c.move_on-in-Test.ensures;
     }
 
 pub returns-in-BackUp : goal.returns-in-BackUp

@@ -5,5 +5,5 @@ use Rattle.search.proofs.plan.write_no_order.Goals as goal
 
 pub returns : goal.returns
 returns c =
-    let p = none_written c.args.count c.args.buffer.now c.write-at.new.buffer c.tail-fields-tail.result c.write-at-2.new.buffer (omega arith) c.write-at.ensures c.tail-fields-tail.ensures c.write-at-2.ensures in
+    let p = none_written c.args.count c.args.buffer.now c.write_at.new.buffer c.tail_fields-tail.result c.write_at-2.new.buffer (omega arith) c.write_at.ensures c.tail_fields-tail.ensures c.write_at-2.ensures in
     record { reply = p.0; after = p.1 }

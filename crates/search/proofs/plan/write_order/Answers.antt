@@ -10,5 +10,5 @@ returns-then-buffer-levels g c =
 
 pub returns : goal.returns
 returns g c =
-    let p = order_written (g.R.Rule.meaning c.args.rule.now) c.args.w.now c.args.buffer.now c.write-levels.new.plan c.tail-fields-tail.result c.write-at.new.buffer c.if-buffer-levels.false c.write-levels.ensures c.tail-fields-tail.ensures c.write-at.ensures in
+    let p = order_written (g.R.Rule.meaning c.args.rule.now) c.args.w.now c.args.buffer.now c.write_levels.new.plan c.tail_fields-tail.result c.write_at.new.buffer c.if-buffer-levels.false c.write_levels.ensures c.tail_fields-tail.ensures c.write_at.ensures in
     record { reply = p.0; after = p.1 }

@@ -6,7 +6,7 @@ use Rattle.sheet.specs.Sheets.{flows_of}
 use Rattle.job.proofs.Paired.{pairs_kept}
 use Rattle.job.proofs.job.Job.add_pair.Goals as goal
 
-pub invariant-of-self : goal.invariant-of-self
-invariant-of-self c =
+pub invariant_of-self : goal.invariant_of-self
+invariant_of-self c =
     let j = c.args.self.now in
-    (subst (λ (qs : List Pair). pairs_hold (flows_of j.sheet) qs ≡ true) (sym c.add.ensures.after) (pairs_kept (leb 16 (length (paired j.pairs))) (flows_of j.sheet) (paired j.pairs) c.args.pair j.known (sym c.has-pair.ensures ∙ c.if-not-has-pair.false)), tt)
+    record { known = subst (λ (qs : List Pair). pairs_hold (flows_of j.sheet) qs ≡ true) (sym c.add.ensures.after) (pairs_kept (leb 16 (length (paired j.pairs))) (flows_of j.sheet) (paired j.pairs) c.args.pair j.known (sym c.has_pair.ensures ∙ c.if-not-has_pair.false)) }

@@ -9,10 +9,10 @@ use Rattle.interference.proofs.LawsOfD.{bound_D_members, lawful_D}
 use Rattle.interference.proofs.Pass.{place_asked, place_flows, place_more}
 use Rattle.latency.proofs.rule_d.RuleDRule.bounds.Goals as goal
 
-pub plain-bound-requires : goal.plain-bound-requires
-plain-bound-requires c =
+pub plain_bound-requires : goal.plain_bound-requires
+plain_bound-requires c =
     let t = c.args.self.now.traffic in
-    let s = sound c.args.list.now (lawful_D (chip t) (chip_some t) (chip_few t)) c.count.ensures.value c.if-not-is-distinct.ensures in
+    let s = sound c.args.list.now (lawful_D (chip t) (chip_some t) (chip_few t)) c.count.ensures.value c.if-not-is_distinct.ensures in
     place_flows (chip t) c.args.list.now s.once c.loop-f.f-index c.loop-f-test.true c.loop-f.above c.loop-f.invariant.1
 
 pub returns-in-None : goal.returns-in-None
@@ -20,8 +20,8 @@ returns-in-None c =
     let t = c.args.self.now.traffic in
     let list = c.args.list.now in
     let i : ℕ = c.loop-f.f-index in
-    let s = sound list (lawful_D (chip t) (chip_some t) (chip_few t)) c.count.ensures.value c.if-not-is-distinct.ensures in
-    let value : c.plain-bound.result ≡ bound_D (chip t) (get_or list i 0) (take i list) = c.plain-bound.ensures ∙ ap (λ x. bound_D (chip t) (get_or list i 0) (members x)) c.loop-f.invariant.1 ∙ bound_D_members (chip t) (get_or list i 0) (take i list) (chip_few t) (place_asked (chip t) list s.once i c.loop-f-test.true) in
+    let s = sound list (lawful_D (chip t) (chip_some t) (chip_few t)) c.count.ensures.value c.if-not-is_distinct.ensures in
+    let value : c.plain_bound.result ≡ bound_D (chip t) (get_or list i 0) (take i list) = c.plain_bound.ensures ∙ ap (λ x. bound_D (chip t) (get_or list i 0) (members x)) c.loop-f.invariant.1 ∙ bound_D_members (chip t) (get_or list i 0) (take i list) (chip_few t) (place_asked (chip t) list s.once i c.loop-f-test.true) in
     all_told (meaning_D (chip t)) list s c.loop-f.told (telling_ends (meaning_D (chip t)) list i c.loop-f.told c.loop-f.invariant.0 c.loop-f-test.true (sym value ∙ c.in-None.is))
 
 pub loop-f-preserved : goal.loop-f-preserved
@@ -29,8 +29,8 @@ loop-f-preserved c =
     let t = c.args.self.now.traffic in
     let list = c.args.list.now in
     let i : ℕ = c.loop-f.f-index in
-    let s = sound list (lawful_D (chip t) (chip_some t) (chip_few t)) c.count.ensures.value c.if-not-is-distinct.ensures in
-    let value : c.plain-bound.result ≡ bound_D (chip t) (get_or list i 0) (take i list) = c.plain-bound.ensures ∙ ap (λ x. bound_D (chip t) (get_or list i 0) (members x)) c.loop-f.invariant.1 ∙ bound_D_members (chip t) (get_or list i 0) (take i list) (chip_few t) (place_asked (chip t) list s.once i c.loop-f-test.true) in (
+    let s = sound list (lawful_D (chip t) (chip_some t) (chip_few t)) c.count.ensures.value c.if-not-is_distinct.ensures in
+    let value : c.plain_bound.result ≡ bound_D (chip t) (get_or list i 0) (take i list) = c.plain_bound.ensures ∙ ap (λ x. bound_D (chip t) (get_or list i 0) (members x)) c.loop-f.invariant.1 ∙ bound_D_members (chip t) (get_or list i 0) (take i list) (chip_few t) (place_asked (chip t) list s.once i c.loop-f-test.true) in (
       rw c.push.ensures (telling_more (meaning_D (chip t)) list i c.loop-f.told c.loop-f.invariant.0 c.in-Some.ticks c.loop-f-test.true (omega (arith, list_short (meaning_D (chip t)) list s)) (sym value ∙ c.in-Some.is)),
       place_more list i c.loop-f.above c.with-above.result c.loop-f-test.true c.loop-f.invariant.1 c.with-above.ensures,
     )
@@ -39,5 +39,5 @@ pub returns : goal.returns
 returns c =
     let t = c.args.self.now.traffic in
     let list = c.args.list.now in
-    let s = sound list (lawful_D (chip t) (chip_some t) (chip_few t)) c.count.ensures.value c.if-not-is-distinct.ensures in
+    let s = sound list (lawful_D (chip t) (chip_some t) (chip_few t)) c.count.ensures.value c.if-not-is_distinct.ensures in
     all_told (meaning_D (chip t)) list s c.loop-f.told (telling_all (meaning_D (chip t)) list c.loop-f.f-index c.loop-f.told c.loop-f.invariant.0 c.loop-f-test.false)

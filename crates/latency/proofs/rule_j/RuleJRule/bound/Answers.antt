@@ -15,8 +15,8 @@ returns c =
     let fs : List FlowParameters = chip c.args.self.now.traffic in
     let f : ℕ = c.args.f in
     let above : List ℕ = c.args.above.now in
-    let asked = tested fs f c.count.result above c.is-proper.result c.count.ensures.value c.is-proper.ensures c.if-not-is-proper.false in
+    let asked = tested fs f c.count.result above c.is_proper.result c.count.ensures.value c.is_proper.ensures c.if-not-is_proper.false in
     record {
-      asked = ap Ok c.delayed-bound.ensures ∙ sym (replied (proper (length fs) f above) (bound_J fs f above) asked);
-      told = subst (λ o. ToldJ fs f above (Ok o)) (sym c.delayed-bound.ensures) (told_J fs f above);
+      asked = ap Ok c.delayed_bound.ensures ∙ sym (replied (proper (length fs) f above) (bound_J fs f above) asked);
+      told = subst (λ o. ToldJ fs f above (Ok o)) (sym c.delayed_bound.ensures) (told_J fs f above);
     }

@@ -15,18 +15,18 @@ use Rattle.interference.proofs.Fixed.{least_is}
 use Rattle.interference.proofs.LawsOfL.{bound_L_members}
 use Rattle.latency.proofs.rule_l.RuleLRule.bound.Goals as goal
 
-pub linked-bound-requires : goal.linked-bound-requires
-linked-bound-requires c =
+pub linked_bound-requires : goal.linked_bound-requires
+linked_bound-requires c =
     let fs : List FlowParameters = chip c.args.self.now.traffic in
-    asked_flows fs c.args.f c.args.above.now c.of.result (tested fs c.args.f c.count.result c.args.above.now c.is-proper.result c.count.ensures.value c.is-proper.ensures c.if-not-is-proper.false) c.of.ensures
+    asked_flows fs c.args.f c.args.above.now c.of.result (tested fs c.args.f c.count.result c.args.above.now c.is_proper.result c.count.ensures.value c.is_proper.ensures c.if-not-is_proper.false) c.of.ensures
 
 pub returns : goal.returns
 returns c =
     let fs : List FlowParameters = chip c.args.self.now.traffic in
     let f = c.args.f in
     let above : List _ = c.args.above.now in
-    let asked = tested fs f c.count.result above c.is-proper.result c.count.ensures.value c.is-proper.ensures c.if-not-is-proper.false in
-    let value : c.linked-bound.result ≡ bound_L fs f above = c.linked-bound.ensures ∙ ap (λ s. bound_L fs f (members s)) c.of.ensures ∙ bound_L_members fs f above (chip_few c.args.self.now.traffic) asked in
+    let asked = tested fs f c.count.result above c.is_proper.result c.count.ensures.value c.is_proper.ensures c.if-not-is_proper.false in
+    let value : c.linked_bound.result ≡ bound_L fs f above = c.linked_bound.ensures ∙ ap (λ s. bound_L fs f (members s)) c.of.ensures ∙ bound_L_members fs f above (chip_few c.args.self.now.traffic) asked in
     record {
       asked = ap Ok value ∙ sym (replied (proper (length fs) f above) (bound_L fs f above) asked);
       told = subst (λ o. Least (equation_L fs f above) (flow fs f).deadline o) (sym value) (least_is (flow fs f).latency (flow fs f).deadline (counted fs (counts_L fs f above) none_extra above));

@@ -9,10 +9,10 @@ use Rattle.interference.proofs.LawsOfL.{bound_L_members, lawful_L}
 use Rattle.interference.proofs.Pass.{place_asked, place_flows, place_more}
 use Rattle.latency.proofs.rule_l.RuleLRule.bounds.Goals as goal
 
-pub linked-bound-requires : goal.linked-bound-requires
-linked-bound-requires c =
+pub linked_bound-requires : goal.linked_bound-requires
+linked_bound-requires c =
     let t = c.args.self.now.traffic in
-    let s = sound c.args.list.now (lawful_L (chip t) (chip_some t) (chip_few t)) c.count.ensures.value c.if-not-is-distinct.ensures in
+    let s = sound c.args.list.now (lawful_L (chip t) (chip_some t) (chip_few t)) c.count.ensures.value c.if-not-is_distinct.ensures in
     place_flows (chip t) c.args.list.now s.once c.loop-f.f-index c.loop-f-test.true c.loop-f.above c.loop-f.invariant.1
 
 pub returns-in-None : goal.returns-in-None
@@ -20,8 +20,8 @@ returns-in-None c =
     let t = c.args.self.now.traffic in
     let list = c.args.list.now in
     let i : ℕ = c.loop-f.f-index in
-    let s = sound list (lawful_L (chip t) (chip_some t) (chip_few t)) c.count.ensures.value c.if-not-is-distinct.ensures in
-    let value : c.linked-bound.result ≡ bound_L (chip t) (get_or list i 0) (take i list) = c.linked-bound.ensures ∙ ap (λ x. bound_L (chip t) (get_or list i 0) (members x)) c.loop-f.invariant.1 ∙ bound_L_members (chip t) (get_or list i 0) (take i list) (chip_few t) (place_asked (chip t) list s.once i c.loop-f-test.true) in
+    let s = sound list (lawful_L (chip t) (chip_some t) (chip_few t)) c.count.ensures.value c.if-not-is_distinct.ensures in
+    let value : c.linked_bound.result ≡ bound_L (chip t) (get_or list i 0) (take i list) = c.linked_bound.ensures ∙ ap (λ x. bound_L (chip t) (get_or list i 0) (members x)) c.loop-f.invariant.1 ∙ bound_L_members (chip t) (get_or list i 0) (take i list) (chip_few t) (place_asked (chip t) list s.once i c.loop-f-test.true) in
     all_told (meaning_L (chip t)) list s c.loop-f.told (telling_ends (meaning_L (chip t)) list i c.loop-f.told c.loop-f.invariant.0 c.loop-f-test.true (sym value ∙ c.in-None.is))
 
 pub loop-f-preserved : goal.loop-f-preserved
@@ -29,8 +29,8 @@ loop-f-preserved c =
     let t = c.args.self.now.traffic in
     let list = c.args.list.now in
     let i : ℕ = c.loop-f.f-index in
-    let s = sound list (lawful_L (chip t) (chip_some t) (chip_few t)) c.count.ensures.value c.if-not-is-distinct.ensures in
-    let value : c.linked-bound.result ≡ bound_L (chip t) (get_or list i 0) (take i list) = c.linked-bound.ensures ∙ ap (λ x. bound_L (chip t) (get_or list i 0) (members x)) c.loop-f.invariant.1 ∙ bound_L_members (chip t) (get_or list i 0) (take i list) (chip_few t) (place_asked (chip t) list s.once i c.loop-f-test.true) in (
+    let s = sound list (lawful_L (chip t) (chip_some t) (chip_few t)) c.count.ensures.value c.if-not-is_distinct.ensures in
+    let value : c.linked_bound.result ≡ bound_L (chip t) (get_or list i 0) (take i list) = c.linked_bound.ensures ∙ ap (λ x. bound_L (chip t) (get_or list i 0) (members x)) c.loop-f.invariant.1 ∙ bound_L_members (chip t) (get_or list i 0) (take i list) (chip_few t) (place_asked (chip t) list s.once i c.loop-f-test.true) in (
       rw c.push.ensures (telling_more (meaning_L (chip t)) list i c.loop-f.told c.loop-f.invariant.0 c.in-Some.ticks c.loop-f-test.true (omega (arith, list_short (meaning_L (chip t)) list s)) (sym value ∙ c.in-Some.is)),
       place_more list i c.loop-f.above c.with-above.result c.loop-f-test.true c.loop-f.invariant.1 c.with-above.ensures,
     )
@@ -39,5 +39,5 @@ pub returns : goal.returns
 returns c =
     let t = c.args.self.now.traffic in
     let list = c.args.list.now in
-    let s = sound list (lawful_L (chip t) (chip_some t) (chip_few t)) c.count.ensures.value c.if-not-is-distinct.ensures in
+    let s = sound list (lawful_L (chip t) (chip_some t) (chip_few t)) c.count.ensures.value c.if-not-is_distinct.ensures in
     all_told (meaning_L (chip t)) list s c.loop-f.told (telling_all (meaning_L (chip t)) list c.loop-f.f-index c.loop-f.told c.loop-f.invariant.0 c.loop-f-test.false)

@@ -42,11 +42,11 @@ settle-requires t c =
       ),
     )
 
-pub returns-in-default : goal.returns-in-default
-returns-in-default t c =
+pub returns-in_default : goal.returns-in_default
+returns-in_default t c =
     let fs : List FlowParameters = chip c.args.self.now in
     let list : List ℕ = c.args.list.now in
     let s : Settled = c.args.settled.now in
     let asked = reversed_asked fs list (chip_few c.args.self.now) c.requires.0 c.args.k s c.requires.1 c.if-k-list.false in
     settling_ends fs list (chip_few c.args.self.now) c.requires.0 c.args.k s c.requires.1 c.if-k-list.false
-    (c.in-default.ensures.value (reverse (take c.args.k list)) asked (c.requires.1.above ∙ sym (marks_reverse (take c.args.k list))) c.requires.1.holds)
+    (c.in_default.ensures.value (reverse (take c.args.k list)) asked (c.requires.1.above ∙ sym (marks_reverse (take c.args.k list))) c.requires.1.holds)

@@ -10,4 +10,4 @@ use Rattle.latency.proofs.traffic.Traffic.ceiling.Goals as goal
 pub returns : goal.returns
 returns c =
     c.least.ensures.value
-    ∙ solved (chip c.args.self.now) c.args.f (marks_of c.args.set) (marks_of c.direct-counted.result) (direct (chip c.args.self.now) c.args.f) c.most-jitters.result (ceiling_extra (chip c.args.self.now) c.args.f (members (marks_of c.args.set))) c.direct-counted.ensures.value c.most-jitters.ensures.value
+    ∙ solved (chip c.args.self.now) c.args.f (marks_of c.args.set) (marks_of c.direct-counted.result) (direct (chip c.args.self.now) c.args.f) c.most_jitters.result (ceiling_extra (chip c.args.self.now) c.args.f (members (marks_of c.args.set))) c.direct-counted.ensures.value c.most_jitters.ensures.value

@@ -15,8 +15,8 @@ settle-requires c = (
   settling_none (chip c.args.self.now) c.args.above.now c.none-settled.result c.none-settled.ensures.told c.none-settled.ensures.above,
 )
 
-pub overflow-cast-settled : goal.overflow-cast-settled
-overflow-cast-settled c =
+pub overflow_cast-settled : goal.overflow_cast-settled
+overflow_cast-settled c =
     let fs : List FlowParameters = chip c.args.self.now in
     omega (arith, settled_few fs c.args.f c.args.above.now c.settle.new.settled c.settle.ensures, distinct_short (length fs) c.args.above.now (chip_few c.args.self.now) (distinct_parts (length fs) c.args.f c.args.above.now c.requires).2)
 

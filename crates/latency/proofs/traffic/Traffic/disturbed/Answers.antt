@@ -17,7 +17,7 @@ returns c =
     let near = marks_of c.near.result in
     let far = marks_of c.near-2.result in
     let flows = within_flows (length fs) set c.requires.1.1 in
-    ap not (c.is-empty.ensures ∙ ap empty (c.less.ensures ∙ ap (λ s. less s far) c.and.ensures))
+    ap not (c.is_empty.ensures ∙ ap empty (c.less.ensures ∙ ap (λ s. less s far) c.and.ensures))
     ∙ some_in_both_not set near far (marks_of_length c.args.over ∙ sym (marks_of_length c.near.result)) (ap length (sym c.and.ensures) ∙ marks_of_length c.and.result ∙ sym (marks_of_length c.near-2.result))
     ∙ any_same (λ g. has near g && not (has far g)) (λ g. share fs g c.args.j && not (share fs g c.args.f)) (members set)
     (λ g asked. ap₂ (λ a b. a && not b) (c.near.ensures g ∙ ap (λ b. b && share fs g c.args.j) (flows g asked)) (c.near-2.ensures g ∙ ap (λ b. b && share fs g c.args.f) (flows g asked)))

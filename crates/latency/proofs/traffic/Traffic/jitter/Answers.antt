@@ -46,8 +46,8 @@ returns c =
     let late : ℕ = of_flow c.args.settled.now.bounds c.args.j - (flow fs c.args.j).latency in
     record {
       value =
-          c.saturating-sub.ensures
+          c.saturating_sub.ensures
           ∙ ap (λ p. of_flow c.args.settled.now.bounds c.args.j - p.latency) c.flow.ensures.value
           ∙ ap (λ b. cond b late 0) (c.if-not-disturbed.ensures ∙ ap (λ s. disturbed fs c.args.f (members s) c.args.j) (sym rows));
-      few = omega (arith, c.saturating-sub.ensures, c.args.settled.now.small (c.args.j - 1));
+      few = omega (arith, c.saturating_sub.ensures, c.args.settled.now.small (c.args.j - 1));
     }

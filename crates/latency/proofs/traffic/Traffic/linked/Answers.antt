@@ -40,7 +40,7 @@ returns c =
     let near = marks_of c.direct-direct.result in
     let apart = marks_of c.loop-k.apart in
     let rest : (g : ℕ) → is_flow (length fs) g ≡ true → has apart g ≡ apart_at fs (less set near) (members near) g =
-    λ g asked. apart_done fs apart (members (marks_of c.loop-k.left)) g c.in-default.ensures.0 ∙ c.loop-k.invariant.0 g asked ∙ ap (λ s. apart_at fs s (members near) g) c.less-apart.ensures in
+    λ g asked. apart_done fs apart (members (marks_of c.loop-k.left)) g c.in_default.ensures.0 ∙ c.loop-k.invariant.0 g asked ∙ ap (λ s. apart_at fs s (members near) g) c.less-apart.ensures in
     let value : members (marks_of c.less.result) ≡ filter (counts_L fs c.args.f (members set)) (members set) =
     ap members c.less.ensures ∙ linked_kept fs c.args.f (length fs) set near apart (sized c.args.set c.direct-direct.result) (sized c.args.set c.loop-k.apart) c.requires.1 c.direct-direct.ensures.value rest in
     record { value = value; flows = kept_within (length fs) (counts_L fs c.args.f (members set)) set (marks_of c.less.result) value c.requires.1 }

@@ -23,6 +23,6 @@ loop-j-preserved c =
     let after : List ℕ = members (marks_of c.pop.new.self) in
     let e = c.in-Some.ensures.0 in
     let flows : (k : ℕ) → among k all ≡ true → 1 ≤ k = λ k asked. (flow_range n k (within_flows n (marks_of c.args.counted) c.requires.1.1 k asked)).0 in (
-      filled_more (ceiling_extra (chip c.args.self.now) c.args.f (members (marks_of c.args.set))) all before after c.loop-j.extra c.in-Some.j c.most-jitter.result e (omega (arith, c.in-Some.ensures)) (omega (arith, c.in-Some.ensures)) flows c.most-jitter.ensures.value c.most-jitter.ensures.few c.loop-j.invariant.0,
+      filled_more (ceiling_extra (chip c.args.self.now) c.args.f (members (marks_of c.args.set))) all before after c.loop-j.extra c.in-Some.j c.most_jitter.result e (omega (arith, c.in-Some.ensures)) (omega (arith, c.in-Some.ensures)) flows c.most_jitter.ensures.value c.most_jitter.ensures.few c.loop-j.invariant.0,
       flows_tail n c.in-Some.j before after e c.loop-j.invariant.1,
     )

@@ -13,8 +13,8 @@ loop-j-init c = (omega arith, omega (arith, members_few c.args.counted), within_
 pub flow-sum-requires : goal.flow-sum-requires
 flow-sum-requires c = flows_head (length (chip c.args.self.now)) c.in-Some.j (members (marks_of c.loop-j.left)) (members (marks_of c.pop.new.self)) c.in-Some.ensures.0 c.loop-j.invariant.2
 
-pub overflow-add-sum : goal.overflow-add-sum
-overflow-add-sum c = omega (arith, c.loop-j.invariant.1, c.flow-sum.ensures.times)
+pub overflow_add-sum : goal.overflow_add-sum
+overflow_add-sum c = omega (arith, c.loop-j.invariant.1, c.flow-sum.ensures.times)
 
 pub loop-j-preserved : goal.loop-j-preserved
 loop-j-preserved c =
@@ -33,5 +33,5 @@ loop-j-smaller c = omega (arith, ap length c.in-Some.ensures.0)
 pub returns : goal.returns
 returns c =
     let w : ℕ → ℕ = λ j. (flow (chip c.args.self.now) j).latency in
-    let e = c.in-default.ensures.0 in
+    let e = c.in_default.ensures.0 in
     record { value = omega (arith, ap (total w) e, c.loop-j.invariant.0); few = omega (arith, c.loop-j.invariant.1) }

@@ -8,17 +8,17 @@ use Rattle.interference.specs.Interference.{no_flow}
 use Rattle.interference.specs.Tables.{chip_of}
 use Rattle.interference.proofs.Sheets.{sheet_range, not_missing, table_more}
 use Rattle.latency.proofs.traffic.sheets.table_of.Goals as goal
-use Rattle.latency.proofs.traffic.sheets.table_of.Goals.{in-Some-flow, in-default-flow}
+use Rattle.latency.proofs.traffic.sheets.table_of.Goals.{in-Some-flow, in_default-flow}
 
 pub unreachable-requires : goal.unreachable-requires
 unreachable-requires c =
-    not_missing (flows_of c.args.sheet.now) 0 no_flow c.flow.result (omega (arith, sheet_range c.args.sheet.now)) c.flow.ensures c.in-default.is
+    not_missing (flows_of c.args.sheet.now) 0 no_flow c.flow.result (omega (arith, sheet_range c.args.sheet.now)) c.flow.ensures c.in_default.is
 
 pub loop-i-init : goal.loop-i-init
 loop-i-init c = (refl, refl)
 
-pub offset-bounds-flows-i : goal.offset-bounds-flows-i
-offset-bounds-flows-i c = omega (arith, sheet_range c.args.sheet.now)
+pub offset_bounds-flows-i : goal.offset_bounds-flows-i
+offset_bounds-flows-i c = omega (arith, sheet_range c.args.sheet.now)
 
 pub bounds-flows-i : goal.bounds-flows-i
 bounds-flows-i c = omega (arith, sheet_range c.args.sheet.now)
@@ -33,7 +33,7 @@ loop-i-preserved c =
         simp length-set c.loop-i.invariant.0,
         table_more c.loop-i.flows ps i w.in-Some-flow.flow (omega (arith, sheet_range c.args.sheet.now)) (omega arith) c.loop-i.invariant.1 (sym (ap said_of w.in-Some-flow.is) ∙ c.flow-in-loop-i.ensures),
       )
-      | in-default-flow w ↦ absurd (not_missing ps i no_flow c.flow-in-loop-i.result (omega arith) c.flow-in-loop-i.ensures w.in-default-flow.is)
+      | in_default-flow w ↦ absurd (not_missing ps i no_flow c.flow-in-loop-i.result (omega arith) c.flow-in-loop-i.ensures w.in_default-flow.is)
     ]
 
 pub returns : goal.returns

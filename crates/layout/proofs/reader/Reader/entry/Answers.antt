@@ -7,7 +7,7 @@ use Rattle.layout.proofs.reader.Reader.entry.Goals as goal
 
 pub returns-in-2 : goal.returns-in-2
 returns-in-2 c =
-    let begun = c.in-ok-tag.ensures in
+    let begun = c.in_ok-tag.ensures in
     let head = subst (λ (tag : ℕ). Took c.args.self.now.bytes.now c.args.self.now.at c.head.new.self.at (tag ∷ be16 (length_for tag))) c.in-2.is begun.cases.head in
     record {
       kept = (c.flow.ensures.kept.0 ∙ begun.kept.0, c.flow.ensures.kept.1 ∙ begun.kept.1);

@@ -8,12 +8,12 @@ use Rattle.precedence.specs.Pairs.{held_back, laters}
 use Rattle.precedence.proofs.Paired.{table_at, meets}
 use Rattle.precedence.proofs.pairs.Pairs.hold_back.Goals as goal
 
-pub returns-then-is-flow : goal.returns-then-is-flow
-returns-then-is-flow c =
+pub returns-then-is_flow : goal.returns-then-is_flow
+returns-then-is_flow c =
     let s = c.args.self.now in
     let f = c.args.f in
     let ps = take s.count s.list in
-    let flow = sym c.if-is-flow.ensures in
+    let flow = sym c.if-is_flow.ensures in
     let r = flow_range 20 f flow in
     c.intersects.ensures
     ∙ ap (λ (x : List Bool). not (empty (both x (marks_of c.args.others)))) (table_at s.later ps s.agree f _ r.0 r.1)

@@ -3,5 +3,5 @@ use Rattle.std.proofs.Common.{refl, arith}
 use Rattle.precedence.proofs.Paired.{later_sets_none}
 use Rattle.precedence.proofs.pairs.Pairs.none.Goals as goal
 
-pub invariant-of-result : goal.invariant-of-result
-invariant-of-result c = (omega arith, (refl, (later_sets_none 20 1 c.none-none.result c.none-none.ensures, tt)))
+pub invariant_of-result : goal.invariant_of-result
+invariant_of-result c = record { few = omega arith; sized = refl; agree = later_sets_none 20 1 c.none-none.result c.none-none.ensures }

@@ -5,8 +5,8 @@ use Rattle.rule.specs.FlowSets.{marks_of, first_flows}
 use Rattle.rule.proofs.Digits.{digits_first, first_small}
 use Rattle.rule.proofs.flow_set.FlowSet.first.Goals as goal
 
-pub invariant-of-result : goal.invariant-of-result
-invariant-of-result c = (first_small c.min-count.result (omega arith), tt)
+pub invariant_of-result : goal.invariant_of-result
+invariant_of-result c = record { small = first_small c.min-count.result (omega arith) }
 
 pub returns : goal.returns
 unfolding marks_of first_flows

@@ -4,8 +4,8 @@ use Rattle.rule.specs.FlowSets.{marks_of}
 use Rattle.rule.proofs.Digits.{digits_less}
 use Rattle.rule.proofs.flow_set.FlowSet.less.Goals as goal
 
-pub overflow-sub-result : goal.overflow-sub-result
-overflow-sub-result c = and_le_l _ _
+pub overflow_sub-result : goal.overflow_sub-result
+overflow_sub-result c = and_le_l _ _
 
 pub returns : goal.returns
 unfolding marks_of

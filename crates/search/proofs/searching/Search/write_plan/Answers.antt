@@ -9,6 +9,6 @@ returns-in-Order g c =
     let m = g.R.Rule.meaning s.rule in
     let laws = g.met.R.Rule.lawful s.rule in
     record {
-      reply = λ v. plan_reply_told m laws s.walk (s.ranged.0, s.ranged.1, s.ranged.2, s.sized.0, s.sized.1, s.sized.2) v c.in-Order.is (length c.args.buffer.now) c.write-order.result c.write-order.ensures.reply;
-      after = λ v. plan_after_told m laws s.walk (s.ranged.0, s.ranged.1, s.ranged.2, s.sized.0, s.sized.1, s.sized.2) v c.in-Order.is c.args.buffer.now c.write-order.new.buffer c.write-order.ensures.after;
+      reply = λ v. plan_reply_told m laws s.walk (s.ranged.0, s.ranged.1, s.ranged.2, s.sized.0, s.sized.1, s.sized.2) v c.in-Order.is (length c.args.buffer.now) c.write_order.result c.write_order.ensures.reply;
+      after = λ v. plan_after_told m laws s.walk (s.ranged.0, s.ranged.1, s.ranged.2, s.sized.0, s.sized.1, s.sized.2) v c.in-Order.is c.args.buffer.now c.write_order.new.buffer c.write_order.ensures.after;
     }
