@@ -1,3 +1,4 @@
-pub mod Walks
+pub mod Equal
 pub mod Marks
 pub mod Meeting
+pub mod Walks

@@ -2,7 +2,7 @@
 --   answered         a reply that is no refusal is the answer to a proper question
 --   Below            the bounds below of a list without repeats
 --   below_at, -stops the bound of each flow that one is told of, and none for the flow after
-use Rattle.std.proofs.Common.{◌≡◌, ℕ, ◌-◌, ◌<◌, ◌≤◌, Bool, true, false, List, [], length, get_or, take, replicate, Some, None, Ok, Err, Result, sym, refl, ap, ◌∙◌, arith}
+use Rattle.std.proofs.Common.{◌≡◌, ℕ, ◌-◌, ◌<◌, ◌≤◌, Bool, true, false, List, [], length, get_or, take, replicate, Some, None, Ok, Result, sym, refl, ap, ◌∙◌, arith}
 use Rattle.std.proofs.lemmas.List.{get_or_append_left}
 use Rattle.chip.specs.declared.refusal.Refusal.{Refusal}
 use Rattle.rule.specs.declared.bounds.Bounds.{Bounds}

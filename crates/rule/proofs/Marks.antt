@@ -1,9 +1,9 @@
 -- Sets of flows as lists of marks: one flow in or out, the first flows, and members. Assumes nothing.
-use Rattle.std.proofs.Common.{◌≡◌, ℕ, zero, suc, ◌+◌, ◌-◌, ◌<◌, ◌≤◌, Bool, true, false, cond, not, ◌&&◌, ◌||◌, eqb, leb, List, [], ◌∷◌, length, get_or, sym, refl, ap, ◌∙◌, ap₂, arith}
+use Rattle.std.proofs.Common.{◌≡◌, ℕ, zero, suc, ◌+◌, ◌<◌, ◌≤◌, Bool, true, false, not, ◌||◌, List, [], ◌∷◌, length, get_or, refl, ap, ◌∙◌, ap₂, arith}
 use lib.ListN as ListN
 use Rattle.std.proofs.lemmas.Bool.Decides.{nat_tests}
-use Rattle.rule.specs.Lists.{marks_from, marks, has, within, within_from}
-use Rattle.rule.specs.FlowSets.{put, firsts, first_flows, both, less, empty, size, members_from, members}
+use Rattle.rule.specs.Lists.{marks_from, has, within, within_from}
+use Rattle.rule.specs.FlowSets.{put, firsts, first_flows, both, less, empty}
 
 -- the flows that are in one set or the other
 abbrev pub either : List Bool → List Bool → List Bool

@@ -5,7 +5,7 @@
 --   marks, has        a set of flows: 20 marks, one for each flow number from 1 up
 --   proper_set        a question about f under a set names flows only, and f is not in the set
 --   Struck            one list is another with flows struck out
-use Rattle.std.specs.Prelude.{◌≡◌, ℕ, zero, suc, ◌+◌, ◌-◌, Bool, true, false, cond, not, ◌&&◌, ◌||◌, List, [], ◌∷◌, ◌==◌, nat_le, slice_index_or}
+use Rattle.std.specs.Prelude.{◌≡◌, ℕ, zero, suc, ◌+◌, Bool, true, false, cond, not, ◌&&◌, ◌||◌, List, [], ◌∷◌, ◌==◌, nat_le, slice_index_or}
 
 -- whether g is one of the flows 1 to n
 abbrev pub is_flow : ℕ → ℕ → Bool

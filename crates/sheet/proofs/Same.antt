@@ -1,5 +1,5 @@
 -- Two tables compared place by place: what the first n entries of each tell by f. Assumes nothing.
-use Rattle.std.proofs.Common.{◌≡◌, ℕ, ◌+◌, ◌<◌, ◌≤◌, Bool, true, false, not, List, [], ◌∷◌, ◌++◌, map, length, get_or, take, Decides, sym, refl, ap, ◌∙◌, subst, arith}
+use Rattle.std.proofs.Common.{◌≡◌, ℕ, ◌+◌, ◌<◌, ◌≤◌, Bool, true, false, not, List, [], ◌∷◌, ◌++◌, map, length, get_or, take, Decides, sym, ap, ◌∙◌, arith}
 use Rattle.std.proofs.lemmas.List.{length-map, length-take-le, get_or-map, get_or-take, map_more}
 use Rattle.std.proofs.lemmas.Bool.{false≢true, both_ways, not-false}
 
@@ -10,6 +10,9 @@ denied no-p = (λ e. absurd (false≢true e), λ p. absurd (no-p p))
 -- what `!=` tells
 abbrev pub Unlike : Bool → Type 0 → Type 0
 Unlike r P = (k : Bool) × Decides k P × (r ≡ not k)
+
+pub unlike : {P : Type 0} (r k : Bool) → Decides k P → r ≡ not k → Unlike r P
+unlike r k d e = (k, d, e)
 
 pub unequal : {P : Type 0} (r : Bool) → Unlike r P → r ≡ true → P → ⊥
 unequal r u e p = both_ways r (u.2 ∙ ap not (u.1.1 p)) e

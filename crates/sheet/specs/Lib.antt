@@ -2,3 +2,4 @@ pub mod Flows
 pub mod Letters
 pub mod Pairs
 pub mod Sheets
+pub mod PairEquality

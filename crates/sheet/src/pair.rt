@@ -1,6 +1,6 @@
 // A precedence pair: a flow that has to stand above another, both named by label.
-ghost use Rattle.std.specs.Prelude.{◌≡◌, Decides, nat_eq};
-ghost use Rattle.std.specs.Ordering.{on, eq_of_both};
+ghost use Rattle.std.specs.Prelude.{◌≡◌, Decides};
+ghost use Rattle.sheet.specs.PairEquality.{pair_eq};
 ghost use Rattle.std.specs.Cmp.Rules.{comparing};
 ghost use Rattle.std.proofs.Common.{rules};
 
@@ -12,11 +12,14 @@ pub struct Pair {
 }
 
 impl PartialEq for Pair {
-    ghost eq = { eq_of_both (on (λ v. v.first) nat_eq) (on (λ v. v.later) nat_eq) };
+    ghost eq = { pair_eq };
 
     ghost laws = { Prim.search (comparing, rules) };
 
-    fn eq(&self, other: &Pair) -> bool {
+    fn eq(&self, other: &Pair) -> bool
+        ensures computes { result ≡ pair_eq self.now other.now }
+        ensures decides { Decides result (self.now ≡ other.now) }
+    {
         self.first == other.first && self.later == other.later
     }
 }

@@ -1,7 +1,6 @@
 -- Why `is_distinct` meets its contract. Assumes nothing.
-use Rattle.std.proofs.Common.{◌≡◌, ◌+◌, true, false, get_or, take, drop, sym, refl, ap, ◌∙◌, inl, inr, arith}
+use Rattle.std.proofs.Common.{◌+◌, false, get_or, take, drop, sym, refl, ◌∙◌, inl, inr, arith}
 use Rattle.std.proofs.lemmas.List.{at_drop_more, at_drop_all, take_more, get_or-replicate, length-set}
-use Rattle.rule.specs.Lists.{distinct}
 use Rattle.rule.proofs.Distinct.{left_to_test, test_start, test_new, test_fails, seen_step}
 use Rattle.rule.proofs.proper.is_distinct.Goals as goal
 use Rattle.rule.proofs.proper.is_distinct.Goals.{then-not-is_flow-via-then-not-is_flow, then-not-is_flow-via-else-not-is_flow+then-seen-g}

@@ -1,6 +1,4 @@
 -- Why `FlowSet::is_within` meets its contract. Assumes nothing.
-use Rattle.std.proofs.Common.{◌≡◌, sym, ap, ◌∙◌}
-use Rattle.rule.specs.FlowSets.{first_flows, less, empty}
 use Rattle.rule.proofs.Marks.{within_first}
 use Rattle.rule.proofs.FlowSets.{marks_of_length}
 use Rattle.rule.proofs.flow_set.FlowSet.is_within.Goals as goal

@@ -1,6 +1,5 @@
-use Rattle.std.proofs.Common.{◌≡◌, true, false, cond, eqb, leb, sym, ap, ◌∙◌, subst, arith, length-set}
-use Rattle.std.proofs.lemmas.Bool.{lt-leb}
-use Rattle.sheet.specs.Flows.{listed, labelled, distinct_labels, add_fault}
+use Rattle.std.proofs.Common.{◌≡◌, false, sym, ap, ◌∙◌, arith, length-set}
+use Rattle.sheet.specs.Flows.{listed, labelled}
 use Rattle.sheet.proofs.Listed.{listed_length, listed_more, distinct_push, accepted_flow}
 use Rattle.sheet.proofs.flow_list.FlowList.add.Goals as goal
 
