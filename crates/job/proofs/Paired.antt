@@ -1,9 +1,9 @@
 -- One more pair beside those that a job has. Assumes nothing.
-use Rattle.std.proofs.Common.{◌≡◌, ℕ, Bool, true, false, cond, ◌&&◌, eqb, leb, List, [], ◌∷◌, ◌++◌, length, refl}
-use Rattle.std.proofs.lemmas.Bool.{and_parts, and_from, cond_both}
+use Rattle.std.proofs.Common.{◌≡◌, Bool, true, false, cond, List, [], ◌∷◌, ◌++◌, refl}
+use Rattle.std.proofs.lemmas.Bool.{and_parts, and_from}
 use Rattle.chip.specs.declared.parameters.FlowParameters.{FlowParameters}
 use Rattle.sheet.specs.declared.pair.Pair.{Pair}
-use Rattle.sheet.specs.Pairs.{pair_holds, pairs_hold, pair_fault, after_pairing}
+use Rattle.sheet.specs.Pairs.{pair_holds, pairs_hold}
 
 pub pairs_push : (ps : List FlowParameters) (qs : List Pair) (q : Pair) → pairs_hold ps qs ≡ true → pair_holds ps q ≡ true → pairs_hold ps (qs ++ q ∷ []) ≡ true
 pairs_push ps [] q h e = and_from _ _ e refl

@@ -1,5 +1,6 @@
 // When two jobs are equal.
 ghost use Rattle.std.specs.Prelude.{◌≡◌, Decides};
+ghost use Rattle.job.specs.Equality.{job_eq, job_laws};
 ghost use Rattle.job.specs.Jobs.{contents, ticks_of};
 ghost use Rattle.std.specs.Cmp.Rules.{comparing};
 ghost use Rattle.std.proofs.Common.{rules, arith};
@@ -22,11 +23,14 @@ fn same_reserve(a: Option<Ticks>, b: Option<Ticks>) -> bool
 
 // Two jobs are equal when they hold the same.
 impl PartialEq for Job {
-    ghost equals = { λ a b r. Decides r (contents a ≡ contents b) };
+    ghost eq = { job_eq };
 
-    ghost laws = { first_of (Prim.search (comparing, rules), Prim.grind (arith, Self.row.coded.inj)) };
+    ghost laws = { job_laws };
 
-    fn eq(&self, other: &Job) -> bool {
+    fn eq(&self, other: &Job) -> bool
+        ensures computes { result ≡ job_eq self.now other.now }
+        ensures decides { Decides result (contents self.now ≡ contents other.now) }
+    {
         self.letter == other.letter
             && same_reserve(self.reserve, other.reserve)
             && self.sheet.same(&other.sheet)

@@ -1,4 +1,4 @@
-use Rattle.std.proofs.Common.{◌≡◌, false, cond, leb, length, take, sym, ◌∙◌, arith}
+use Rattle.std.proofs.Common.{◌≡◌, false, leb, length, take, sym, ◌∙◌, arith}
 use Rattle.std.proofs.lemmas.List.{length-take-le, take_more_set}
 use Rattle.std.proofs.lemmas.Bool.{lt-leb, cond-false}
 use Rattle.job.proofs.pair_list.PairList.add.Goals as goal
