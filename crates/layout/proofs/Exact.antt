@@ -1,6 +1,6 @@
 -- Reading is exact: what the code reads is the layout of its job, each layout is read, and no input has two answers.
 -- Assumes nothing.
-use Rattle.std.proofs.Common.{◌≡◌, ℕ, ◌≤◌, List, [], ◌∷◌, ◌++◌, length, drop, Some, Ok, Err, Result, sym, refl, ap, ◌∙◌, subst, arith, MatchResult}
+use Rattle.std.proofs.Common.{◌≡◌, ℕ, ◌≤◌, List, [], length, drop, Ok, Err, Result, sym, refl, ap, ◌∙◌, subst, arith, MatchResult}
 use Rattle.std.proofs.lemmas.List.{drop_all}
 use Rattle.chip.specs.declared.refusal.Refusal.{Refusal}
 use Rattle.chip.specs.declared.refusal.Refusal.TheVariants.{Truncated, Tag, Length, RuleLetter, Times, Endpoints, LabelZero, LabelTaken, TooManyFlows, ReserveTooLarge, PairUnknown, TooManyPairs, TrailingBytes, ShortBuffer, AdvanceOfZero, AdvanceAfterEnd, NoOutcome, LevelOutside, ImproperQuestion}
@@ -11,9 +11,9 @@ use Rattle.layout.specs.declared.entry.Stage.{Stage}
 use Rattle.layout.specs.declared.entry.Stage.TheVariants.{Done}
 use Rattle.layout.specs.declared.fault.Fault.{Fault}
 use Rattle.layout.specs.Faults.{Part, blank, head_fault}
-use Rattle.layout.specs.Layout.{layout, entry_bytes}
-use Rattle.layout.specs.Progress.{at_byte, part_of, Refuses, Ends}
-use Rattle.layout.specs.Reading.{State, Reads, Faulty, in_head, in_value, start, FirstFault, Answer, accepted, refused, ReadExactly, answer_of}
+use Rattle.layout.specs.Layout.{layout}
+use Rattle.layout.specs.Progress.{part_of, Refuses, Ends}
+use Rattle.layout.specs.Reading.{State, Reads, Faulty, in_head, in_value, start, FirstFault, accepted, refused, ReadExactly, answer_of}
 use Rattle.layout.proofs.Layouts.{Leads, layout_read}
 use Rattle.layout.proofs.Single.{Stuck, only_one, stuck_at_fault, one_fault, stuck_at_end}
 use Rattle.layout.proofs.Written.{ends_laid_out}

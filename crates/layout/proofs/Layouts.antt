@@ -1,8 +1,8 @@
 -- The layout of every job is read as that job. Assumes nothing.
-use Rattle.std.proofs.Common.{◌≡◌, ℕ, suc, ◌+◌, ◌<◌, ◌≤◌, Bool, true, false, cond, not, ◌&&◌, eqb, leb, List, [], ◌∷◌, ◌++◌, map, length, take, drop, is_some, Some, None, Option, sym, refl, ap, ◌∙◌, subst, arith}
+use Rattle.std.proofs.Common.{◌≡◌, ℕ, ◌+◌, ◌≤◌, true, false, not, eqb, leb, List, [], ◌∷◌, ◌++◌, map, length, take, Some, None, Option, sym, refl, subst, arith}
 use Rattle.std.specs.List.{flat_map}
-use Rattle.std.proofs.lemmas.List.{append-nil, append_assoc, length-append, length-map, length-take-le}
-use Rattle.std.proofs.lemmas.Bool.{false≢true, and_parts, or_parts, not-true, lt-leb, eq-eqb, ne_eqb, both_ways, or_from}
+use Rattle.std.proofs.lemmas.List.{append-nil, append_assoc, length-append, length-take-le}
+use Rattle.std.proofs.lemmas.Bool.{and_parts, or_parts, not-true, lt-leb, eq-eqb, ne_eqb, both_ways, or_from}
 use Rattle.std.proofs.lemmas.Bool.Decides.{nat_tests}
 use Rattle.chip.specs.declared.flow.Flow.{Flow}
 use Rattle.chip.specs.declared.parameters.FlowParameters.{FlowParameters}
@@ -13,18 +13,18 @@ use Rattle.job.specs.declared.job.Job.{Job}
 use Rattle.sheet.specs.declared.letter.Letter.{Letter}
 use Rattle.sheet.specs.declared.letter.Letter.TheVariants.{D, J, L}
 use Rattle.sheet.specs.declared.pair.Pair.{Pair}
-use Rattle.sheet.specs.Flows.{said, listed, labelled, distinct_labels, add_fault}
+use Rattle.sheet.specs.Flows.{said, labelled, distinct_labels, add_fault}
 use Rattle.job.specs.Jobs.{Contents, contents, ticks_of}
 use Rattle.sheet.specs.Letters.{letter_code, letter_named}
 use Rattle.sheet.specs.Pairs.{pair_holds, pairs_hold, pair_fault}
 use Rattle.layout.specs.declared.entry.Entry.{Entry}
 use Rattle.layout.specs.declared.entry.Entry.TheVariants as entry
 use Rattle.layout.specs.declared.entry.Stage.{Stage}
-use Rattle.layout.specs.declared.entry.Stage.TheVariants.{Rule, FirstFlow, Flows, Pairs, Done}
-use Rattle.layout.specs.Faults.{Part, blank, with_entry, allows, length_for, open_fault, head_fault, value_fault, or_else}
+use Rattle.layout.specs.declared.entry.Stage.TheVariants.{FirstFlow, Flows, Pairs, Done}
+use Rattle.layout.specs.Faults.{Part, blank, with_entry, allows, length_for, head_fault, value_fault}
 use Rattle.layout.specs.Layout.{tag_of, value_of, entry_bytes, flow_bytes, pair_bytes, reserve_bytes, layout}
 use Rattle.layout.specs.Progress.{ruled, part_of, flows_alone}
-use Rattle.layout.specs.Reading.{State, Sound, Reads, here, next, start}
+use Rattle.layout.specs.Reading.{Reads, here, next}
 use Rattle.layout.proofs.Heads.{fine}
 use Rattle.layout.proofs.Laying.{few_flows, few_pairs}
 use Rattle.layout.proofs.Steps.{open_head, then_reads}

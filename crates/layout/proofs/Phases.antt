@@ -1,5 +1,5 @@
 -- What each reading call has read once it has passed over a field. Assumes nothing.
-use Rattle.std.proofs.Common.{◌≡◌, ℕ, ◌+◌, ◌<◌, ◌≤◌, Bool, true, false, cond, not, eqb, List, [], ◌∷◌, ◌++◌, length, get_or, drop, is_some, IfOk, Some, None, Ok, Err, Option, Result, sym, refl, ap, ◌∙◌, subst, arith, length-drop, MatchResult}
+use Rattle.std.proofs.Common.{◌≡◌, ℕ, ◌<◌, List, [], ◌∷◌, length, drop, IfOk, Some, None, Ok, Err, Option, Result, sym, refl, ap, ◌∙◌, subst, arith, length-drop, MatchResult}
 use Rattle.std.specs.Option.{ok_or}
 use Rattle.std.proofs.lemmas.Bool.{false≢true}
 use Rattle.std.proofs.lemmas.Bool.Decides.{nat_tests}
@@ -12,14 +12,13 @@ use Rattle.chip.specs.Refusals.{number_of}
 use Rattle.sheet.specs.declared.letter.Letter.{Letter}
 use Rattle.sheet.specs.declared.pair.Pair.{Pair}
 use Rattle.job.specs.Jobs.{Contents}
-use Rattle.sheet.specs.Flows.{add_fault}
 use Rattle.sheet.specs.Letters.{letter_named}
 use Rattle.layout.specs.declared.entry.Entry.{Entry}
 use Rattle.layout.specs.declared.entry.Entry.TheVariants as entry
 use Rattle.layout.specs.declared.entry.Stage.{Stage}
-use Rattle.layout.specs.declared.entry.Stage.TheVariants.{Rule, FirstFlow, Flows, Pairs, Done}
+use Rattle.layout.specs.declared.entry.Stage.TheVariants.{Rule, FirstFlow, Flows, Done}
 use Rattle.layout.specs.declared.fault.Fault.{Fault}
-use Rattle.layout.specs.Cursor.{Took, Peeked}
+use Rattle.layout.specs.Cursor.{Peeked}
 use Rattle.layout.specs.Faults.{Part, blank, with_entry, open_fault, head_fault, value_fault, or_else}
 use Rattle.layout.specs.Progress.{at_byte, ruled, part_of, flows_alone, Refuses, Underway, LastWish, placed}
 use Rattle.layout.specs.Reading.{State, Reads, here, in_head}

@@ -1,7 +1,7 @@
 -- Reading goes one way: an input has one answer at most. Assumes nothing.
-use Rattle.std.proofs.Common.{◌≡◌, ℕ, ◌+◌, ◌≤◌, List, [], ◌∷◌, ◌++◌, length, sym, refl, ap, ◌∙◌, subst, arith}
+use Rattle.std.proofs.Common.{◌≡◌, ℕ, ◌+◌, ◌≤◌, [], length, sym, refl, ap, ◌∙◌, subst, arith}
 use Rattle.layout.specs.declared.entry.Entry.{Entry}
-use Rattle.layout.specs.Faults.{Part, with_entry, head_fault, value_fault}
+use Rattle.layout.specs.Faults.{with_entry, value_fault}
 use Rattle.layout.specs.Layout.{entry_bytes}
 use Rattle.layout.specs.Reading.{State, Sound, Reads, here, next, Faulty, in_head, in_value}
 use Rattle.layout.proofs.Codes.{same_field, same_rest}

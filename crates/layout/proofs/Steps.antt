@@ -1,19 +1,17 @@
 -- One field on: a sound one leads further, a faulty one is where reading is refused. Assumes nothing.
-use Rattle.std.proofs.Common.{◌≡◌, ℕ, ◌+◌, ◌<◌, ◌≤◌, Bool, true, false, cond, not, eqb, List, [], ◌∷◌, ◌++◌, length, get_or, drop, sym, refl, ap, ◌∙◌, subst, arith}
+use Rattle.std.proofs.Common.{◌≡◌, ℕ, true, false, eqb, List, get_or, drop, sym, refl, ap, ◌∙◌, subst, arith}
 use Rattle.chip.specs.Refusals.{number_of}
 use Rattle.chip.specs.declared.parameters.FlowParameters.{FlowParameters}
-use Rattle.job.specs.Jobs.{Contents}
 use Rattle.layout.specs.declared.entry.Entry.{Entry}
 use Rattle.layout.specs.declared.entry.Entry.TheVariants as entry
 use Rattle.layout.specs.declared.entry.Stage.{Stage}
 use Rattle.layout.specs.declared.entry.Stage.TheVariants.{Rule, FirstFlow, Flows, Pairs, Done}
 use Rattle.layout.specs.declared.fault.Fault.{Fault}
-use Rattle.layout.specs.Cursor.{Took, Peeked}
-use Rattle.layout.specs.Faults.{Part, with_entry, allows, told_length, length_for, open_fault, head_fault, value_fault}
-use Rattle.layout.specs.Layout.{tag_of, entry_bytes}
-use Rattle.layout.specs.Progress.{at_byte, part_of, Refuses, Underway}
-use Rattle.layout.specs.Reading.{State, Sound, Reads, here, next, Faulty, in_head, in_value}
-use Rattle.std.proofs.lemmas.Bool.{not-false}
+use Rattle.layout.specs.Cursor.{Peeked}
+use Rattle.layout.specs.Faults.{Part, with_entry, allows, open_fault, head_fault, value_fault}
+use Rattle.layout.specs.Layout.{tag_of}
+use Rattle.layout.specs.Progress.{at_byte, Refuses}
+use Rattle.layout.specs.Reading.{State, Reads, here, next, in_head, in_value}
 use Rattle.std.proofs.lemmas.Bool.Decides.{nat_tests}
 
 -- where a head is sound, its tag may come

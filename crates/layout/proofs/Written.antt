@@ -1,12 +1,11 @@
 -- What was read is what stands before the cursor: the fields so far, laid out. Assumes nothing.
-use Rattle.std.proofs.Common.{◌≡◌, ℕ, ◌+◌, ◌≤◌, Bool, true, false, cond, eqb, ◌⊎◌, List, [], ◌∷◌, ◌++◌, length, get_or, drop, is_some, Some, None, Option, sym, refl, ap, ◌∙◌, subst, inl, inr, ⊎_elim, arith}
+use Rattle.std.proofs.Common.{◌≡◌, ℕ, true, List, [], ◌++◌, length, is_some, Some, None, Option, sym, refl, ap, ◌∙◌, subst, arith}
 use Rattle.std.specs.List.{flat_map}
 use Rattle.std.proofs.lemmas.List.{append-nil, append_assoc, flat_map_more, drop_all}
 use Rattle.std.proofs.lemmas.Bool.{false≢true}
 use Rattle.std.proofs.lemmas.Bool.Decides.{nat_tests}
 use Rattle.chip.specs.declared.parameters.FlowParameters.{FlowParameters}
 use Rattle.sheet.specs.declared.letter.Letter.{Letter}
-use Rattle.sheet.specs.declared.letter.Letter.TheVariants.{D, J, L}
 use Rattle.sheet.specs.declared.pair.Pair.{Pair}
 use Rattle.job.specs.Jobs.{Contents}
 use Rattle.sheet.specs.Letters.{letter_code, letter_named}
@@ -16,8 +15,8 @@ use Rattle.layout.specs.declared.entry.Stage.{Stage}
 use Rattle.layout.specs.declared.entry.Stage.TheVariants.{Rule, FirstFlow, Flows, Pairs, Done}
 use Rattle.layout.specs.Faults.{Part, blank, with_entry, allows, head_fault, value_fault}
 use Rattle.layout.specs.Layout.{tag_of, entry_bytes, reserve_bytes, layout}
-use Rattle.layout.specs.Progress.{at_byte, part_of, Ends}
-use Rattle.layout.specs.Reading.{State, Sound, Reads, here, next, start}
+use Rattle.layout.specs.Progress.{part_of, Ends}
+use Rattle.layout.specs.Reading.{State, Reads, here, next, start}
 use Rattle.layout.proofs.Steps.{allowed_tag}
 
 -- the bytes of a field, not opened here

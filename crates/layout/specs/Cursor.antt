@@ -2,7 +2,7 @@
 --   Took       these bytes came next, and the cursor moved past them
 --   Put        these bytes were laid out last
 --   Peeked     this field came next, its head is sound, and the cursor moved past it
-use Rattle.std.specs.Prelude.{◌≡◌, ℕ, ◌+◌, ◌≤◌, List, ◌∷◌, ◌++◌, length, get_or, drop}
+use Rattle.std.specs.Prelude.{◌≡◌, ℕ, ◌+◌, ◌≤◌, List, ◌∷◌, ◌++◌, length, drop}
 use Rattle.layout.specs.declared.entry.Entry.{Entry}
 use Rattle.layout.specs.declared.entry.Stage.{Stage}
 use Rattle.layout.specs.Layout.{be16, entry_bytes}

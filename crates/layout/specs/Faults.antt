@@ -3,7 +3,7 @@
 --   allows          which tags may come at each stage
 --   head_fault      the fault of a field's tag, length and extent
 --   value_fault     the fault of what a field says
-use Rattle.std.specs.Prelude.{ℕ, ◌+◌, ◌*◌, Bool, true, false, cond, not, ◌||◌, List, [], ◌∷◌, ◌++◌, length, is_some, Some, None, Option, ◌==◌, nat_lt, slice_index}
+use Rattle.std.specs.Prelude.{ℕ, ◌+◌, ◌*◌, Bool, false, cond, not, ◌||◌, List, [], ◌∷◌, ◌++◌, length, is_some, Some, None, Option, ◌==◌, nat_lt, slice_index}
 use Rattle.chip.specs.declared.parameters.FlowParameters.{FlowParameters}
 use Rattle.chip.specs.Flows.{flow_fault}
 use Rattle.chip.specs.Reserves.{reserve_fault}

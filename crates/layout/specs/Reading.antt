@@ -3,12 +3,11 @@
 --   Reads          sound fields lead from one state to another
 --   FirstFault    the input's first faulty field, by its fault and its first byte
 --   ReadExactly   what the reading call promises
-use Rattle.std.specs.Prelude.{◌≡◌, ℕ, ◌+◌, ◌≤◌, ◌↔◌, List, [], ◌∷◌, ◌++◌, length, Some, Ok, Err, Result}
+use Rattle.std.specs.Prelude.{◌≡◌, ℕ, ◌+◌, ◌≤◌, ◌↔◌, List, ◌++◌, length, Ok, Err, Result}
 use Rattle.chip.specs.Refusals.{number_of}
 use Rattle.job.specs.declared.job.Job.{Job}
 use Rattle.job.specs.Jobs.{Contents, contents}
 use Rattle.layout.specs.declared.entry.Entry.{Entry}
-use Rattle.layout.specs.declared.entry.Stage.TheVariants.{Done}
 use Rattle.layout.specs.declared.fault.Fault.{Fault}
 use Rattle.layout.specs.Layout.{entry_bytes, layout}
 use Rattle.layout.specs.Faults.{Part, blank, with_entry, head_fault, value_fault}

@@ -1,4 +1,4 @@
-use Rattle.std.proofs.Common.{◌≡◌, sym, refl, ap, ◌∙◌, subst}
+use Rattle.std.proofs.Common.{refl, subst}
 use Rattle.std.proofs.lemmas.Result.{err_from_is_err_and}
 use Rattle.layout.specs.declared.entry.Entry.{Entry}
 use Rattle.layout.specs.declared.entry.Stage.TheVariants.{FirstFlow}
@@ -11,7 +11,7 @@ use Rattle.layout.proofs.reading.first_flow.Goals as goal
 pub returns-in_err-parameters : goal.returns-in_err-parameters
 returns-in_err-parameters c =
     let told = c.in_err-parameters.ensures in
-    let p = err_from_is_err_and c.from-residual.result c.from-residual.ensures.1 in
+    let p = err_from_is_err_and c.from_residual.result c.from_residual.ensures.1 in
     record {
       kept = told.kept.0;
       cases = λ l. rw (p.1, p.2) (bad_head (ruled l) c.args.reader.now.bytes.now c.args.reader.now.at _ refl told.cases.0 told.cases.1);

@@ -1,4 +1,4 @@
-use Rattle.std.proofs.Common.{◌≡◌, ℕ, true, false, eqb, List, [], ◌∷◌, ◌++◌, sym, refl, ap, ◌∙◌, subst, arith}
+use Rattle.std.proofs.Common.{List, [], ◌∷◌, ◌++◌, sym, refl, ◌∙◌, subst}
 use Rattle.std.proofs.lemmas.Result.{err_from_is_err_and}
 use Rattle.chip.specs.declared.parameters.FlowParameters.{FlowParameters}
 use Rattle.sheet.specs.Sheets.{drafted}
@@ -6,7 +6,6 @@ use Rattle.sheet.specs.declared.letter.Letter.{Letter}
 use Rattle.layout.specs.declared.entry.Entry.{Entry}
 use Rattle.layout.specs.declared.entry.Entry.TheVariants as entry
 use Rattle.layout.specs.declared.entry.Stage.TheVariants.{Flows}
-use Rattle.layout.specs.Layout.{tag_of}
 use Rattle.layout.specs.Progress.{at_byte, part_of, flows_alone, Underway}
 use Rattle.layout.specs.Reading.{State, Reads}
 use Rattle.layout.proofs.Phases.{entry_read, entry_refused, head_refused, head_passed}
@@ -17,7 +16,7 @@ use Rattle.layout.proofs.reading.flows.Goals.{In_ok-add_flow}
 pub returns-in_err-add_flow : goal.returns-in_err-add_flow
 returns-in_err-add_flow c =
     let told = c.in_err-add_flow.ensures in
-    let p = err_from_is_err_and c.from-residual.result c.from-residual.ensures.1 in
+    let p = err_from_is_err_and c.from_residual.result c.from_residual.ensures.1 in
     let r = c.loop-next.reader in
     let bytes = c.args.reader.now.bytes.now in
     record {
@@ -44,7 +43,7 @@ read_flow c from l u =
 pub returns-in_err-next : goal.returns-in_err-next
 returns-in_err-next c =
     let told = c.in_err-next.ensures in
-    let p = err_from_is_err_and c.from-residual-in_err-next.result c.from-residual-in_err-next.ensures.1 in
+    let p = err_from_is_err_and c.from_residual-in_err-next.result c.from_residual-in_err-next.ensures.1 in
     let r = c.loop-next.reader in
     record {
       kept = told.kept.0 ∙ c.loop-next.invariant.0;

@@ -4,7 +4,7 @@ use Rattle.sheet.specs.declared.letter.Letter.{Letter}
 use Rattle.layout.specs.declared.entry.Stage.TheVariants.{Flows}
 use Rattle.layout.specs.Faults.{allows}
 use Rattle.layout.specs.Layout.{tag_of}
-use Rattle.layout.specs.Progress.{at_byte, part_of, flows_alone, Underway}
+use Rattle.layout.specs.Progress.{flows_alone, Underway}
 use Rattle.layout.specs.Reading.{State}
 use Rattle.layout.proofs.reading.flows.Given as goal
 

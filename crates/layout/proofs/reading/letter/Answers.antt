@@ -1,4 +1,4 @@
-use Rattle.std.proofs.Common.{◌≡◌, ℕ, Option, sym, refl, ap, ◌∙◌, subst}
+use Rattle.std.proofs.Common.{Option, refl, ap, ◌∙◌, subst}
 use Rattle.std.specs.Option.{ok_or}
 use Rattle.chip.specs.declared.refusal.Refusal.TheVariants.{RuleLetter}
 use Rattle.sheet.specs.declared.letter.Letter.{Letter}
@@ -15,7 +15,7 @@ use Rattle.layout.proofs.reading.letter.Goals as goal
 pub returns-in_err-byte : goal.returns-in_err-byte
 returns-in_err-byte c =
     let told = c.in_err-byte.ensures in
-    let p = err_from_is_err_and c.from-residual.result c.from-residual.ensures.1 in
+    let p = err_from_is_err_and c.from_residual.result c.from_residual.ensures.1 in
     record {
       kept = told.kept.0;
       cases = rw (p.1, p.2) (bad_head blank c.args.reader.now.bytes.now c.args.reader.now.at _ refl told.cases.0 told.cases.1);

@@ -1,4 +1,4 @@
-use Rattle.std.proofs.Common.{◌≡◌, ℕ, List, length, sym, refl, ap, ◌∙◌, subst, arith}
+use Rattle.std.proofs.Common.{ℕ, length, sym, refl, ap, ◌∙◌, subst, arith}
 use Rattle.std.proofs.lemmas.Result.{err_from_is_err_and, MatchResult-weaker}
 use Rattle.job.specs.Jobs.{Contents, contents}
 use Rattle.layout.specs.declared.entry.Entry.{Entry}
@@ -21,7 +21,7 @@ this_pair c from u =
 pub returns-in_err-add_pair : goal.returns-in_err-add_pair
 returns-in_err-add_pair c from u w =
     let told = c.in_err-add_pair.ensures in
-    let p = err_from_is_err_and c.from-residual.result c.from-residual.ensures.1 in
+    let p = err_from_is_err_and c.from_residual.result c.from_residual.ensures.1 in
     let r = c.loop-next.reader in
     rw (p.1, p.2)
     (entry_refused from c.args.reader.now.bytes.now r.field r.at (contents c.loop-next.job) (entry.Pair c.in-Pair.pair) (this_pair (goal.at.returns-in_err-add_pair c).In-Pair from u) _ (λ s. told.0) told.1)
@@ -42,7 +42,7 @@ read_pair c from u =
 pub returns-in_err-next : goal.returns-in_err-next
 returns-in_err-next c from u w =
     let told = c.in_err-next.ensures in
-    let p = err_from_is_err_and c.from-residual-in_err-next.result c.from-residual-in_err-next.ensures.1 in
+    let p = err_from_is_err_and c.from_residual-in_err-next.result c.from_residual-in_err-next.ensures.1 in
     let r = c.loop-next.reader in
     rw (p.1, p.2)
     (head_refused from c.args.reader.now.bytes.now r.bytes.now r.at Pairs (contents c.add_pair.new.job) c.loop-next.invariant.0

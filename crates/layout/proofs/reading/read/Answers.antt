@@ -1,7 +1,6 @@
-use Rattle.std.proofs.Common.{◌≡◌, ℕ, List, [], ◌∷◌, sym, refl, ap, ◌∙◌, subst, MatchResult}
+use Rattle.std.proofs.Common.{◌≡◌, ℕ, List, [], ◌∷◌, sym, ap, ◌∙◌, subst}
 use Rattle.std.proofs.lemmas.Result.{err_from_is_err_and, MatchResult-weaker}
-use Rattle.job.specs.Jobs.{Contents, contents}
-use Rattle.layout.specs.declared.fault.Fault.{Fault}
+use Rattle.job.specs.Jobs.{contents}
 use Rattle.layout.specs.declared.entry.Stage.TheVariants.{Flows}
 use Rattle.layout.specs.Faults.{blank}
 use Rattle.layout.specs.Progress.{at_byte, part_of, ruled, flows_alone, Refuses, Ends}
@@ -17,9 +16,9 @@ begins held input at same zero = ap (λ (n : ℕ). at_byte blank held n) zero �
 
 pub returns-in_err-letter : goal.returns-in_err-letter
 returns-in_err-letter c =
-    let p = err_from_is_err_and c.from-residual.result c.from-residual.ensures.1 in
+    let p = err_from_is_err_and c.from_residual.result c.from_residual.ensures.1 in
     let e = c.new-reader.ensures in
-    exact c.args.bytes.now c.from-residual.result
+    exact c.args.bytes.now c.from_residual.result
     (rw (p.1, p.2) (subst (λ (s : State). Refuses s c.in_err-letter.field-0.0) (begins _ _ _ e.0 e.1) c.in_err-letter.ensures.cases))
 
 -- the rule field is read
@@ -32,8 +31,8 @@ ruled_so_far c =
 
 pub returns-in_err-first : goal.returns-in_err-first
 returns-in_err-first c =
-    let p = err_from_is_err_and c.from-residual-in_err-first.result c.from-residual-in_err-first.ensures.1 in
-    exact c.args.bytes.now c.from-residual-in_err-first.result
+    let p = err_from_is_err_and c.from_residual-in_err-first.result c.from_residual-in_err-first.ensures.1 in
+    exact c.args.bytes.now c.from_residual-in_err-first.result
     (rw (p.1, p.2) (then_refuses (ruled_so_far (goal.at.returns-in_err-first c).In_ok-letter) (c.in_err-first.ensures.cases c.in_ok-letter.letter)))
 
 pub returns : goal.returns

@@ -4,8 +4,8 @@ use Rattle.chip.specs.declared.parameters.FlowParameters.{FlowParameters}
 use Rattle.job.specs.Jobs.{Contents, contents}
 use Rattle.sheet.specs.Sheets.{drafted}
 use Rattle.layout.specs.declared.entry.Stage.TheVariants.{Flows}
-use Rattle.layout.specs.Progress.{at_byte, part_of, flows_alone, Refuses, Ends, Underway}
-use Rattle.layout.specs.Reading.{State, here}
+use Rattle.layout.specs.Progress.{at_byte, part_of, flows_alone, Ends, Underway}
+use Rattle.layout.specs.Reading.{here}
 use Rattle.layout.proofs.Phases.{head_refused, head_passed}
 use Rattle.layout.proofs.Steps.{peeked_tag}
 use Rattle.layout.proofs.reading.rest.Goals as goal
@@ -13,7 +13,7 @@ use Rattle.layout.proofs.reading.rest.Goals.{In_ok-next}
 
 pub returns-in_err-next : goal.returns-in_err-next
 returns-in_err-next c =
-    let p = err_from_is_err_and c.from-residual.result c.from-residual.ensures.1 in
+    let p = err_from_is_err_and c.from_residual.result c.from_residual.ensures.1 in
     let told = c.in_err-next.ensures in
     let r = c.args.reader.now in
     let d = flows_alone c.args.letter (c.args.first.parameters ∷ []) in
@@ -35,7 +35,7 @@ second c =
 
 pub returns-in_err-next-2 : goal.returns-in_err-next-2
 returns-in_err-next-2 c =
-    let p = err_from_is_err_and c.from-residual-in_err-next-2.result c.from-residual-in_err-next-2.ensures.1 in
+    let p = err_from_is_err_and c.from_residual-in_err-next-2.result c.from_residual-in_err-next-2.ensures.1 in
     rw (p.1, p.2) (c.in_err-next-2.ensures.cases _ c.args.letter (second (goal.at.returns-in_err-next-2 c).In_ok-next))
 
 pub returns : goal.returns

@@ -1,18 +1,17 @@
-use Rattle.std.proofs.Common.{◌≡◌, ℕ, List, sym, refl, ap, ◌∙◌, subst}
+use Rattle.std.proofs.Common.{ℕ, List, sym, subst}
 use Rattle.std.proofs.lemmas.Result.{err_from_is_err_and}
 use Rattle.job.specs.Jobs.{contents}
-use Rattle.layout.specs.Progress.{Refuses, Ends, Underway}
-use Rattle.layout.specs.Reading.{State}
+use Rattle.layout.specs.Progress.{Ends, Underway}
 use Rattle.layout.proofs.reading.wishes.Goals as goal
 
 pub returns-in_err-next : goal.returns-in_err-next
 returns-in_err-next c from u w =
-    let p = err_from_is_err_and c.from-residual.result c.from-residual.ensures.1 in
+    let p = err_from_is_err_and c.from_residual.result c.from_residual.ensures.1 in
     rw (p.1, p.2) (c.in_err-next.ensures.cases from u)
 
 pub returns-in_err-pairs : goal.returns-in_err-pairs
 returns-in_err-pairs c from u w =
-    let p = err_from_is_err_and c.from-residual-in_err-pairs.result c.from-residual-in_err-pairs.ensures.1 in
+    let p = err_from_is_err_and c.from_residual-in_err-pairs.result c.from_residual-in_err-pairs.ensures.1 in
     let told = c.in_ok-next.ensures in
     let r = c.reserve.new.reader in
     rw (p.1, p.2) (c.in_err-pairs.ensures from (subst (λ (bs : List ℕ). Underway from bs r.field r.at (contents c.reserve.new.job) c.in_ok-next.next) (sym told.kept) (told.cases from u)) (told.which w))

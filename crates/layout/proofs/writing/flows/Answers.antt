@@ -1,11 +1,10 @@
-use Rattle.std.proofs.Common.{◌≡◌, ℕ, suc, ◌+◌, ◌*◌, List, ◌++◌, length, take, Some, None, Option, sym, refl, ap, ◌∙◌, subst, add-one, arith}
+use Rattle.std.proofs.Common.{◌≡◌, ℕ, ◌+◌, ◌*◌, ◌++◌, take, Some, None, Option, sym, refl, ap, ◌∙◌, subst, add-one, arith}
 use Rattle.std.specs.List.{flat_map}
 use Rattle.chip.specs.declared.flow.Flow.{Flow}
 use Rattle.chip.specs.declared.parameters.FlowParameters.{FlowParameters}
-use Rattle.sheet.specs.Flows.{said, said_of, flow_numbered}
+use Rattle.sheet.specs.Flows.{said_of, flow_numbered}
 use Rattle.sheet.specs.Sheets.{flows_of}
 use Rattle.layout.specs.declared.page.Page.{Page}
-use Rattle.layout.specs.Cursor.{Put}
 use Rattle.layout.specs.Layout.{flow_bytes}
 use Rattle.layout.proofs.Laying.{laid_more, laid_all, entry_at}
 use Rattle.layout.proofs.writing.flows.Goals as goal

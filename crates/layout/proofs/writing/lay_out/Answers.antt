@@ -1,8 +1,7 @@
-use Rattle.std.proofs.Common.{◌≡◌, ℕ, ◌≤◌, List, [], ◌∷◌, ◌++◌, length, take, Some, None, Option, sym, refl, ap, ◌∙◌, subst, arith}
+use Rattle.std.proofs.Common.{◌≡◌, ℕ, ◌≤◌, List, ◌++◌, length, take, Option, sym, ap, ◌∙◌, arith}
 use Rattle.std.specs.List.{flat_map}
 use Rattle.std.proofs.lemmas.List.{append-nil}
 use Rattle.chip.specs.declared.parameters.FlowParameters.{FlowParameters}
-use Rattle.chip.specs.declared.ticks.Ticks.{Ticks}
 use Rattle.job.specs.Jobs.{contents, ticks_of}
 use Rattle.sheet.specs.Sheets.{flows_of}
 use Rattle.sheet.specs.Letters.{letter_code}

@@ -1,7 +1,5 @@
-use Rattle.std.proofs.Common.{◌≡◌, ℕ, List, length, sym, refl, ap, ◌∙◌, subst}
+use Rattle.std.proofs.Common.{◌≡◌, ℕ, List, length, refl, ap, ◌∙◌, subst}
 use Rattle.chip.specs.Flows.{Answers}
-use Rattle.job.specs.Jobs.{contents}
-use Rattle.layout.specs.Layout.{layout}
 use Rattle.layout.specs.Writing.{write_fault, written_over}
 use Rattle.layout.proofs.writing.write.Goals as goal
 

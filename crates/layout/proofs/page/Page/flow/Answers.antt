@@ -1,7 +1,6 @@
-use Rattle.std.proofs.Common.{ℕ, ◌/◌, ◌%◌, List, [], ◌∷◌, take, subst}
-use Rattle.layout.specs.Cursor.{Put}
-use Rattle.layout.specs.Layout.{be16, be32, flow_value}
-use Rattle.layout.proofs.Taking.{put_both, halves_be32}
+use Rattle.std.proofs.Common.{[], ◌∷◌}
+use Rattle.layout.specs.Layout.{be16, be32}
+use Rattle.layout.proofs.Taking.{put_both}
 use Rattle.layout.proofs.page.Page.flow.Goals as goal
 
 pub returns : goal.returns

@@ -1,6 +1,6 @@
-use Rattle.std.proofs.Common.{ℕ, ◌/◌, ◌%◌, List, [], ◌∷◌, take, subst}
+use Rattle.std.proofs.Common.{ℕ, ◌/◌, ◌%◌, List, take, subst}
 use Rattle.layout.specs.Cursor.{Put}
-use Rattle.layout.specs.Layout.{be16, be32, flow_value}
+use Rattle.layout.specs.Layout.{be16}
 use Rattle.layout.proofs.Taking.{put_both, halves_be32}
 use Rattle.layout.proofs.page.Page.u32.Goals as goal
 

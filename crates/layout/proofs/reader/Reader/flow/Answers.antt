@@ -1,5 +1,4 @@
-use Rattle.std.proofs.Common.{[], ◌∷◌, ◌++◌, refl, ◌∙◌}
-use Rattle.layout.specs.Layout.{be16, be32}
+use Rattle.std.proofs.Common.{◌∙◌}
 use Rattle.layout.proofs.Taking.{took_both}
 use Rattle.layout.proofs.reader.Reader.flow.Goals as goal
 

@@ -1,4 +1,4 @@
-use Rattle.std.proofs.Common.{◌≡◌, ◌+◌, ◌-◌, ◌<◌, [], ◌∷◌, ◌++◌, length, drop, sym, refl, ap, ◌∙◌, subst, arith, length-drop}
+use Rattle.std.proofs.Common.{[], ◌∷◌, drop, sym, refl, ap, ◌∙◌, subst, arith, length-drop}
 use Rattle.chip.specs.Refusals.{number_of}
 use Rattle.layout.specs.Cursor.{Took}
 use Rattle.layout.specs.Layout.{be16}
