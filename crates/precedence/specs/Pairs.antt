@@ -2,7 +2,7 @@
 --   laters, held_back   the flows that a flow must precede, and whether one of them is above it
 --   with_pairs          a rule with such pairs
 --   add_reply           what adding a pair answers
-use Rattle.std.specs.Prelude.{ℕ, zero, suc, Bool, true, false, cond, not, ◌&&◌, ◌||◌, List, [], ◌∷◌, length, None, Ok, Err, Result, ◌==◌, nat_lt}
+use Rattle.std.specs.Prelude.{ℕ, zero, suc, Bool, false, cond, not, ◌&&◌, ◌||◌, List, [], ◌∷◌, length, None, Ok, Err, Result, ◌==◌, nat_lt}
 use Rattle.chip.specs.declared.refusal.Refusal.{Refusal}
 use Rattle.chip.specs.declared.refusal.Refusal.TheVariants.{PairUnknown, TooManyPairs}
 use Rattle.rule.specs.Lists.{is_flow, among, marks, has}

@@ -1,5 +1,5 @@
 -- Why `Pairs::hold_back` meets its contract. Assumes nothing.
-use Rattle.std.proofs.Common.{◌≡◌, Bool, not, ◌&&◌, List, take, sym, ap, ◌∙◌}
+use Rattle.std.proofs.Common.{Bool, not, ◌&&◌, List, take, sym, ap, ◌∙◌}
 use Rattle.rule.specs.Lists.{has}
 use Rattle.rule.specs.FlowSets.{marks_of, empty, both}
 use Rattle.rule.proofs.Distinct.{flow_range}

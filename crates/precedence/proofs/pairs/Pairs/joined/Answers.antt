@@ -1,8 +1,6 @@
 -- Why `Pairs::joined` meets its contract. Assumes nothing.
-use Rattle.std.proofs.Common.{◌≡◌, ◌<◌, List, map, length, sym, ap, ◌∙◌, arith}
+use Rattle.std.proofs.Common.{◌<◌, length, sym, ap, ◌∙◌, arith}
 use Rattle.std.proofs.lemmas.List.{take_more_set, length-set}
-use Rattle.rule.specs.FlowSets.{marks_of}
-use Rattle.precedence.specs.declared.pair.Pair.{Pair}
 use Rattle.precedence.specs.Pairs.{later_sets}
 use Rattle.precedence.proofs.Paired.{table_length, table_push}
 use Rattle.precedence.proofs.pairs.Pairs.joined.Goals as goal

@@ -1,5 +1,5 @@
 -- Why `PrecedenceRule::bound` meets its contract. Assumes nothing.
-use Rattle.std.proofs.Common.{◌≡◌, ℕ, sym, ap, ◌∙◌, inl, inr}
+use Rattle.std.proofs.Common.{ℕ, sym, ap, ◌∙◌, inl, inr}
 use Rattle.rule.specs.FlowSets.{marks_of}
 use Rattle.rule.specs.Lists.{proper}
 use Rattle.precedence.specs.Held.{pairs_of}

@@ -1,5 +1,5 @@
 -- Why `PrecedenceRule::bounds` meets its contract. Assumes nothing.
-use Rattle.std.proofs.Common.{◌≡◌, Bool, true, List, get_or, ap, ◌∙◌, arith}
+use Rattle.std.proofs.Common.{Bool, true, List, get_or, ap, ◌∙◌, arith}
 use Rattle.rule.specs.FlowSets.{marks_of, put}
 use Rattle.rule.proofs.Below.{below, below_most}
 use Rattle.rule.proofs.Members.{marks_more}
