@@ -11,8 +11,8 @@ use Rattle.chip.specs.Refusals.{number_of}
 use Rattle.layout.specs.Reading.{Answer, accepted, refused, ReadExactly}
 use Rattle.rule.specs.Meaning.{Meaning}
 use Rattle.walk.specs.Walk.{State, after, count_of}
-use Rattle.search.specs.declared.walk.Outcome.{Outcome}
-use Rattle.search.specs.declared.walk.Outcome.TheVariants.{Open, Order, NoOrder}
+use Rattle.search.specs.declared.tables.Outcome.{Outcome}
+use Rattle.search.specs.declared.tables.Outcome.TheVariants.{Open, Order, NoOrder}
 use Rattle.search.specs.Answers.{outcome_of}
 use Rattle.search.specs.Plans.{plan_reply, plan_after}
 use Rattle.runs.specs.declared.calls.Reply.{Reply}

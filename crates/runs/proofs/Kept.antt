@@ -2,11 +2,10 @@
 --   Running          what holds after i calls
 --   running_none, -more    no call, and one call more
 --   ran, promised    what a run leaves, and its promise
-use Rattle.std.proofs.Common.{◌≡◌, ℕ, zero, suc, ◌+◌, ◌-◌, ◌<◌, ◌≤◌, min, Bool, true, false, cond, eqb, leb, ◌⊎◌, List, [], ◌∷◌, ◌++◌, length, get_or, take, drop, Some, None, Ok, Err, Option, Result, sym, refl, ap, ◌∙◌, subst, ap₂, inl, inr, ⊎_elim, add-zero, arith}
+use Rattle.std.proofs.Common.{◌≡◌, ℕ, zero, suc, ◌+◌, ◌-◌, ◌<◌, ◌≤◌, Bool, true, false, cond, eqb, leb, List, [], ◌∷◌, ◌++◌, length, get_or, take, drop, Some, None, Ok, Err, Option, sym, refl, ap, ◌∙◌, subst, ap₂, ⊎_elim, add-zero, arith}
 use lib.ListN as ListN
-use Rattle.std.proofs.lemmas.Bool.{both_ways, cases_lt, cases_eq, cond-true, eqb-true, ne_eqb, le-leb, and_from}
+use Rattle.std.proofs.lemmas.Bool.{both_ways, cases_eq, cond-true, eqb-true, ne_eqb, le-leb, and_from}
 use Rattle.std.proofs.lemmas.List.{take_more, take_more_set, take-set-le, length-take, length-set, get_or-set_same, get_or-set_other, drop-set-lt, drop-drop}
-use Rattle.chip.specs.declared.refusal.Refusal.{Refusal}
 use Rattle.chip.specs.declared.refusal.Refusal.TheVariants.{AdvanceOfZero, AdvanceAfterEnd, LevelOutside}
 use Rattle.rule.specs.Laws.{Lawful}
 use Rattle.rule.specs.Lists.{is_flow}
@@ -15,14 +14,14 @@ use Rattle.runs.specs.declared.calls.Call.{Call}
 use Rattle.runs.specs.declared.calls.Call.TheVariants as C
 use Rattle.runs.specs.declared.calls.Reply.{Reply}
 use Rattle.runs.specs.declared.calls.Reply.TheVariants as A
-use Rattle.search.specs.declared.walk.Walk.{Walk}
-use Rattle.search.specs.declared.walk.Outcome.TheVariants.{Open, Order, NoOrder}
+use Rattle.search.specs.declared.tables.Walk.{Walk}
+use Rattle.search.specs.declared.tables.Outcome.TheVariants.{NoOrder}
 use Rattle.search.specs.Candidates.{time_of}
-use Rattle.walk.specs.Walk.{State, going, found, nothing, steps, after, ended, count_of}
-use Rattle.walk.specs.WalkLaw.{WalkLaw, NoOrderPasses, SoundOrder}
+use Rattle.walk.specs.Walk.{State, going, found, nothing, steps, after, ended}
+use Rattle.walk.specs.WalkLaw.{WalkLaw, NoOrderPasses}
 use Rattle.search.specs.Tables.{standing}
 use Rattle.search.specs.Searches.{Walked}
-use Rattle.search.specs.Answers.{outcome_of, advance_reply, level_at, level_reply}
+use Rattle.search.specs.Answers.{outcome_of, advance_reply, level_at}
 use Rattle.runs.specs.Runs.{Rival, advance_told, reply_to, state_after, buffer_after, placings_of, accepted, allowed, state_at, call_at, reply_at, buffer_at}
 use Rattle.runs.specs.Promise.{Made, ToldLevel, Promise, made_of, Ran}
 use Rattle.search.proofs.Advanced.{steps_stay}

@@ -3,15 +3,15 @@
 --   ToldLevel   the flow and the bound told at a level of an order
 --   Promise      the promise, sentence by sentence
 --   Ran          what a run leaves of the replies and of the plan's buffer
-use Rattle.std.specs.Prelude.{◌≡◌, ℕ, ◌-◌, ◌^◌, ◌<◌, ◌≤◌, min, Bool, true, false, List, length, take, drop, Some, Ok, Option, slice_index}
+use Rattle.std.specs.Prelude.{◌≡◌, ℕ, ◌-◌, ◌^◌, ◌<◌, ◌≤◌, min, true, false, List, length, take, drop, Some, Ok, Option, slice_index}
 use Rattle.rule.specs.Lists.{Order}
 use Rattle.rule.specs.Meaning.{Meaning}
 use Rattle.runs.specs.declared.calls.Call.{Call}
 use Rattle.runs.specs.declared.calls.Call.TheVariants.{Advance}
 use Rattle.runs.specs.declared.calls.Reply.{Reply}
 use Rattle.runs.specs.declared.calls.Reply.TheVariants.{Advanced}
-use Rattle.search.specs.declared.walk.Walk.{Walk}
-use Rattle.search.specs.declared.walk.Outcome.TheVariants.{NoOrder}
+use Rattle.search.specs.declared.tables.Walk.{Walk}
+use Rattle.search.specs.declared.tables.Outcome.TheVariants.{NoOrder}
 use Rattle.walk.specs.Walk.{found, after, ended, count_of}
 use Rattle.walk.specs.WalkLaw.{most_placings, NoOrderPasses}
 use Rattle.search.specs.Tables.{standing}

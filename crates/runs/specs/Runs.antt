@@ -4,7 +4,7 @@
 --   state_after, buffer_after    the walk and the plan's buffer after a call
 --   allowed           the placings that accepted advances allow together
 --   state_at, buffer_at          the walk and the buffer before a call of the run
-use Rattle.std.specs.Prelude.{◌≡◌, ℕ, zero, suc, ◌+◌, Bool, true, false, List, [], ◌∷◌, length, take, Some, None, Ok, Err, Option, Result, slice_index_or}
+use Rattle.std.specs.Prelude.{ℕ, zero, suc, ◌+◌, Bool, List, [], ◌∷◌, take, Some, None, Ok, Err, Option, Result, slice_index_or}
 use Rattle.chip.specs.declared.refusal.Refusal.{Refusal}
 use Rattle.chip.specs.declared.refusal.Refusal.TheVariants.{NoOutcome}
 use Rattle.rule.specs.Meaning.{Meaning}

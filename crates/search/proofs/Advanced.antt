@@ -1,15 +1,15 @@
 -- Placings one after another, and the walk before the first of them. Assumes nothing.
 --   stepped_more, stepped_ended    one placing more, and none more once the walk has ended
 --   started                        the walk that has entered its lowest level
-use Rattle.std.proofs.Common.{◌≡◌, ℕ, zero, suc, ◌+◌, ◌-◌, ◌<◌, ◌≤◌, Bool, true, false, List, [], length, get_or, take, drop, sym, refl, ap, ◌∙◌, subst, arith}
+use Rattle.std.proofs.Common.{◌≡◌, ℕ, zero, suc, ◌+◌, ◌-◌, ◌<◌, ◌≤◌, Bool, true, List, [], get_or, take, drop, sym, refl, ap, ◌∙◌, arith}
 use Rattle.std.proofs.lemmas.List.{drop_all, length-take}
 use Rattle.rule.specs.Laws.{Lawful}
 use Rattle.rule.specs.Meaning.{Meaning}
-use Rattle.search.specs.declared.walk.Walk.{Walk}
-use Rattle.search.specs.declared.walk.Outcome.{Outcome}
-use Rattle.search.specs.declared.walk.Outcome.TheVariants.{Open, Order, NoOrder}
+use Rattle.search.specs.declared.tables.Walk.{Walk}
+use Rattle.search.specs.declared.tables.Outcome.{Outcome}
+use Rattle.search.specs.declared.tables.Outcome.TheVariants.{Open, Order, NoOrder}
 use Rattle.walk.specs.Walk.{State, unplaced, settled_by_ceiling, candidates, enter, step, steps, after, ended}
-use Rattle.search.specs.Tables.{Ranged, Row, masks, filled, frames, below_of, untried_of, moving, standing_by, standing, free_of, order_of, Entered, MovedOn}
+use Rattle.search.specs.Tables.{Row, masks, filled, frames, below_of, untried_of, standing_by, standing, free_of, order_of, Entered, MovedOn}
 use Rattle.search.specs.Searches.{Walked, Stepped, SteppedOn, Blank, Started}
 use Rattle.walk.proofs.Lawfully.{steps_more, step_ended}
 use Rattle.search.proofs.Stepping.{settle_same, row_same, open_order}

@@ -2,11 +2,11 @@
 --   refused_after     an advance once the search has ended
 --   level_told        the flow on a level and its bound
 --   plan_told         the plan, as the tables and the rule tell it
-use Rattle.std.proofs.Common.{◌≡◌, ℕ, zero, suc, ◌+◌, ◌-◌, ◌<◌, ◌≤◌, Bool, true, false, cond, ◌&&◌, eqb, leb, List, [], ◌++◌, length, get_or, take, replicate, Some, None, Ok, Err, Option, Result, sym, refl, ap, ◌∙◌, subst, ap₂, arith}
+use Rattle.std.proofs.Common.{◌≡◌, ℕ, zero, suc, ◌-◌, ◌<◌, ◌≤◌, leb, List, [], ◌++◌, length, get_or, take, replicate, Some, Ok, Err, Result, sym, refl, ap, ◌∙◌, subst, ap₂, arith}
 use Rattle.std.proofs.lemmas.Bool.{cond-true, ne_eqb, le-leb, and_from}
-use Rattle.std.proofs.lemmas.List.{get_or-take, get_or_append_left, length-take-le}
+use Rattle.std.proofs.lemmas.List.{get_or-take, get_or_append_left}
 use Rattle.chip.specs.declared.refusal.Refusal.{Refusal}
-use Rattle.chip.specs.declared.refusal.Refusal.TheVariants.{AdvanceOfZero, AdvanceAfterEnd, LevelOutside, NoOutcome}
+use Rattle.chip.specs.declared.refusal.Refusal.TheVariants.{AdvanceAfterEnd, LevelOutside, NoOutcome}
 use Rattle.rule.specs.Laws.{Lawful}
 use Rattle.rule.specs.Lists.{is_flow}
 use Rattle.rule.specs.Meaning.{Meaning, leading}
@@ -14,9 +14,9 @@ use Rattle.rule.specs.Questions.{asked_label}
 use Rattle.rule.proofs.Distinct.{proper_taken, distinct_parts}
 use Rattle.rule.proofs.Told.{leading_at, replied}
 use Rattle.search.specs.declared.searching.Level.{Level}
-use Rattle.search.specs.declared.walk.Walk.{Walk}
-use Rattle.search.specs.declared.walk.Outcome.{Outcome}
-use Rattle.search.specs.declared.walk.Outcome.TheVariants.{Open, Order}
+use Rattle.search.specs.declared.tables.Walk.{Walk}
+use Rattle.search.specs.declared.tables.Outcome.{Outcome}
+use Rattle.search.specs.declared.tables.Outcome.TheVariants.{Open, Order}
 use Rattle.walk.specs.Walk.{State, found, ended}
 use Rattle.walk.specs.WalkLaw.{SoundOrder}
 use Rattle.search.specs.Candidates.{time_of}

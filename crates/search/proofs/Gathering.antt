@@ -3,11 +3,11 @@
 --   Gathering          what is gathered once only the flows of `left` are to come
 --   gathering_some, -skip, -all    one more flow with a time, or without one; no more flow
 --   better, best_all   one more flow to choose from; no more flow
-use Rattle.std.proofs.Common.{◌≡◌, ℕ, zero, suc, ◌+◌, ◌-◌, ◌<◌, ◌≤◌, Bool, true, false, cond, not, ◌&&◌, ◌||◌, eqb, ltb, ◌⊎◌, List, [], ◌∷◌, length, get_or, replicate, is_some, Some, None, Option, Result, sym, refl, ap, ◌∙◌, subst, inl, inr, ⊎_elim, arith}
+use Rattle.std.proofs.Common.{◌≡◌, ℕ, zero, suc, ◌-◌, ◌≤◌, Bool, true, false, cond, not, ◌&&◌, ltb, List, [], length, get_or, replicate, is_some, Some, None, Option, Result, sym, refl, ap, ◌∙◌, ⊎_elim, arith}
 use lib.ListN as ListN
 use Rattle.std.proofs.lemmas.Bool.Decides.{nat_tests}
 use Rattle.std.proofs.lemmas.Bool.{both_ways, cases_eq, cond-true, cond-false}
-use Rattle.std.proofs.lemmas.List.{get_or-set_same, get_or-set_other, get_or-replicate, length-set}
+use Rattle.std.proofs.lemmas.List.{get_or-set_same, get_or-set_other, length-set}
 use Rattle.chip.specs.declared.refusal.Refusal.{Refusal}
 use Rattle.rule.specs.Lists.{among, marks, has}
 use Rattle.rule.specs.Meaning.{Meaning}

@@ -3,13 +3,13 @@
 --   heard_time, floor_row         the times told are those between answer and deadline
 --   opened_by_floor, -ceiling     the candidates of a level
 --   keep_same, choice_same    tests and keys that agree on a set
-use Rattle.std.proofs.Common.{◌≡◌, ℕ, zero, suc, ◌+◌, ◌-◌, ◌<◌, ◌≤◌, Bool, true, false, cond, not, ◌&&◌, ◌||◌, eqb, ltb, leb, ◌⊎◌, List, [], ◌∷◌, length, get_or, is_some, Some, None, Ok, Err, Option, Result, sym, refl, ap, ◌∙◌, subst, inl, inr, ⊎_elim, add-zero, arith}
+use Rattle.std.proofs.Common.{◌≡◌, ℕ, suc, ◌+◌, ◌≤◌, Bool, true, false, cond, not, ◌&&◌, ◌||◌, eqb, ltb, leb, List, [], ◌∷◌, length, get_or, is_some, Some, None, Ok, Option, Result, sym, refl, ap, ◌∙◌, subst, ⊎_elim, add-zero, arith}
 use Rattle.std.proofs.lemmas.Bool.{both_ways, cases_eq, le-leb, and_from, or_right, cond_both, eq-eqb, and_parts, cond-true, cond-false}
 use Rattle.chip.specs.declared.refusal.Refusal.{Refusal}
-use Rattle.rule.specs.FlowSets.{marks_of, put, empty, members_from, members}
+use Rattle.rule.specs.FlowSets.{marks_of, put, members}
 use Rattle.rule.specs.Laws.{Lawful}
 use Rattle.rule.specs.Lists.{is_flow, among, within_from, within, proper_set, marks, has}
-use Rattle.rule.specs.Meaning.{Meaning, answer}
+use Rattle.rule.specs.Meaning.{Meaning}
 use Rattle.rule.specs.Questions.{asked_deadline}
 use Rattle.rule.proofs.Members.{among_members, marks_cons}
 use Rattle.rule.proofs.Distinct.{flow_range}
@@ -18,8 +18,8 @@ use Rattle.search.specs.declared.candidates.Candidates.{Candidates}
 use Rattle.search.specs.declared.candidates.Side.{Side}
 use Rattle.search.specs.declared.candidates.Side.TheVariants.{Floor, Ceiling}
 use Rattle.walk.specs.Choice.{keep_from, keep, slack, best, first_best, choice}
-use Rattle.walk.specs.Walk.{floor_at, ceiling_at, floor_slack, ceiling_slack, with_floor, with_ceiling, by_ceiling, settled_by_ceiling, candidates}
-use Rattle.search.specs.Candidates.{told_slack, asked_side, side_told, time_of, entry_of, Gathered, choice_by}
+use Rattle.walk.specs.Walk.{floor_at, ceiling_at, ceiling_slack, with_floor, with_ceiling, by_ceiling, settled_by_ceiling, candidates}
+use Rattle.search.specs.Candidates.{told_slack, side_told, time_of, entry_of, Gathered, choice_by}
 use Rattle.search.specs.Tables.{Row, FlowsOnly}
 use Rattle.walk.proofs.Chosen.{has_keep}
 use Rattle.walk.proofs.Sets.{has_put_same, has_put_other}

@@ -1,21 +1,20 @@
 -- The tables of a walk after a level is opened, and after an order is tested. Assumes nothing.
 --   entered        a level that is opened
 --   tested_true, tested_false    an order that passes, and one that does not
-use Rattle.std.proofs.Common.{◌≡◌, ℕ, zero, suc, ◌+◌, ◌-◌, ◌<◌, ◌≤◌, Bool, true, false, cond, not, ◌&&◌, eqb, List, [], ◌∷◌, map, length, get_or, take, drop, sym, refl, ap, ◌∙◌, subst, arith}
+use Rattle.std.proofs.Common.{◌≡◌, ℕ, ◌-◌, Bool, true, false, not, List, [], length, get_or, drop, sym, refl, ap, ◌∙◌, subst, arith}
 use lib.ListN as ListN
 use Rattle.std.proofs.lemmas.Bool.{and_parts, eq-eqb, ne_eqb}
 use Rattle.std.proofs.lemmas.List.{get_or-set_same, get_or-set_other, map-set, drop-set-lt, length-set, length-map, length-take-le}
 use Rattle.rule.specs.declared.bounds.Bounds.{Bounds}
 use Rattle.rule.specs.declared.flow_set.FlowSet.{FlowSet}
 use Rattle.rule.specs.FlowSets.{marks_of}
-use Rattle.rule.specs.Laws.{Lawful}
 use Rattle.rule.specs.Lists.{is_flow, among, distinct, has}
 use Rattle.rule.specs.Meaning.{Meaning, leading}
 use Rattle.rule.specs.Questions.{table}
-use Rattle.search.specs.declared.walk.Walk.{Walk}
-use Rattle.search.specs.declared.walk.Outcome.TheVariants.{Order}
-use Rattle.walk.specs.Walk.{unplaced, candidates, settled_by_ceiling, passes}
-use Rattle.search.specs.Tables.{Ranged, Row, FlowsOnly, masks, filled, free_of, untried_of, Entered, order_of, Passed, Tested}
+use Rattle.search.specs.declared.tables.Walk.{Walk}
+use Rattle.search.specs.declared.tables.Outcome.TheVariants.{Order}
+use Rattle.walk.specs.Walk.{candidates, settled_by_ceiling, passes}
+use Rattle.search.specs.Tables.{Ranged, Row, FlowsOnly, masks, filled, free_of, Entered, order_of, Passed, Tested}
 use Rattle.walk.proofs.Orders.{has_unplaced}
 
 -- the unplaced flows are flows of the rule

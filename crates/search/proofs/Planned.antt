@@ -11,7 +11,7 @@ use Rattle.std.proofs.lemmas.Bool.{and_right, cond-true, cond-false, le-leb, lt-
 use Rattle.std.proofs.lemmas.List.{drop-drop, drop_at, take_at, drop_more, drop_all, append_assoc, length-append}
 use Rattle.rule.specs.Meaning.{Meaning}
 use Rattle.rule.specs.Questions.{asked_label}
-use Rattle.search.specs.declared.walk.Walk.{Walk}
+use Rattle.search.specs.declared.tables.Walk.{Walk}
 use Rattle.search.specs.Plans.{level_bytes, tail_bytes, no_order_bytes, fit_reply, fit_after, written, label_told, levels_told, same_label, same_labels}
 
 -- bytes copied into a part of a buffer

@@ -2,28 +2,27 @@
 --   descended     a placing above level 1
 --   tried         a placing on level 1
 --   stayed        no placing of an ended walk
-use Rattle.std.proofs.Common.{◌≡◌, ℕ, zero, suc, ◌+◌, ◌-◌, ◌^◌, ◌<◌, ◌≤◌, min, Bool, true, false, cond, not, ◌&&◌, eqb, ◌⊎◌, List, [], ◌∷◌, map, length, get_or, take, drop, sym, refl, ap, ◌∙◌, subst, inl, inr, ⊎_elim, arith}
+use Rattle.std.proofs.Common.{◌≡◌, ℕ, zero, suc, ◌+◌, ◌-◌, ◌^◌, ◌<◌, ◌≤◌, min, Bool, true, false, cond, eqb, ◌⊎◌, List, [], ◌∷◌, map, length, get_or, take, drop, sym, refl, ap, ◌∙◌, subst, inl, inr, ⊎_elim, arith}
 use lib.ListN as ListN
-use Rattle.std.proofs.lemmas.Bool.{both_ways, cases_eq, cases_lt, cond-true, cond-false, eq-eqb, ne_eqb, eqb-true, eqb-false}
+use Rattle.std.proofs.lemmas.Bool.{both_ways, cases_eq, cond-true, cond-false, eq-eqb, ne_eqb, eqb-true, eqb-false}
 use Rattle.std.proofs.lemmas.List.{get_or-set_same, drop-set, drop-set-lt, length-set, length-map, length-take, length-take-le, length-drop}
 use Rattle.rule.specs.FlowSets.{marks_of, put, empty}
 use Rattle.rule.specs.Laws.{Lawful}
-use Rattle.rule.specs.Lists.{distinct, has}
+use Rattle.rule.specs.Lists.{distinct}
 use Rattle.rule.specs.Meaning.{Meaning, leading}
 use Rattle.rule.specs.Questions.{table}
-use Rattle.search.specs.declared.walk.Walk.{Walk}
-use Rattle.search.specs.declared.walk.Outcome.{Outcome}
-use Rattle.search.specs.declared.walk.Outcome.TheVariants.{Open, Order, NoOrder}
+use Rattle.search.specs.declared.tables.Walk.{Walk}
+use Rattle.search.specs.declared.tables.Outcome.{Outcome}
+use Rattle.search.specs.declared.tables.Outcome.TheVariants.{Open, Order, NoOrder}
 use Rattle.search.specs.declared.moves.Move.{Move}
 use Rattle.search.specs.declared.moves.Move.TheVariants.{Descend, Test, BackUp, End}
 use Rattle.search.specs.Candidates.{entry_of}
-use Rattle.walk.specs.Walk.{Frame, State, going, found, nothing, placed, unplaced, floor_slack, settled_by_ceiling, candidates, settle, enter, next, passes, place, step, after}
+use Rattle.walk.specs.Walk.{Frame, going, found, placed, unplaced, floor_slack, settled_by_ceiling, candidates, settle, enter, next, passes, place, step, after}
 use Rattle.search.specs.Tables.{Ranged, Row, masks, filled, frames, below_of, untried_of, moving, standing_by, standing, free_of, order_of, choice_of, due_by, due, Put, Entered, MovedOn, Passed, Tested}
 use Rattle.search.specs.Searches.{Walked}
-use Rattle.walk.specs.WalkLaw.{most_placings}
 use Rattle.search.proofs.Tabled.{due_open, back_empty}
 use Rattle.search.proofs.Heard.{choice_same}
-use Rattle.walk.proofs.Stands.{Open as Level-open, Stands, next_untried, order_distinct'}
+use Rattle.walk.proofs.Stands.{Stands, next_untried, order_distinct'}
 use Rattle.walk.proofs.Counts.{Due, going_less, most_small}
 use Rattle.walk.proofs.Lawfully.{after_stands, after_due}
 

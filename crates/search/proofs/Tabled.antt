@@ -4,18 +4,17 @@
 --   put_choice, put_untried           the tables after a placing
 --   filled_none, -more                the levels past one, going up
 --   back-, end-, stay_stands          a walk that backs up, ends, or stays
-use Rattle.std.proofs.Common.{◌≡◌, ℕ, zero, suc, ◌+◌, ◌-◌, ◌<◌, ◌≤◌, Bool, true, false, cond, not, ◌&&◌, ◌||◌, eqb, List, [], ◌∷◌, ◌++◌, map, length, get_or, take, drop, sym, refl, ap, ◌∙◌, subst, arith}
+use Rattle.std.proofs.Common.{◌≡◌, ℕ, ◌+◌, ◌-◌, ◌<◌, ◌≤◌, Bool, true, false, cond, eqb, List, [], ◌∷◌, ◌++◌, map, length, get_or, take, drop, sym, refl, ap, ◌∙◌, arith}
 use lib.ListN as ListN
 use Rattle.std.proofs.lemmas.Bool.{eq-eqb, ne_eqb}
 use Rattle.std.proofs.lemmas.List.{get_or-map, map-set, drop_all, drop_more, drop-append-le, take_more, length-take, length-take-le, length-map}
 use Rattle.rule.specs.declared.flow_set.FlowSet.{FlowSet}
 use Rattle.rule.specs.FlowSets.{marks_of, put, empty}
-use Rattle.search.specs.declared.walk.Walk.{Walk}
-use Rattle.search.specs.declared.walk.Outcome.{Outcome}
-use Rattle.search.specs.declared.walk.Outcome.TheVariants.{Open, Order, NoOrder}
-use Rattle.search.specs.declared.moves.Move.{Move}
-use Rattle.search.specs.declared.moves.Move.TheVariants.{Descend, Test, BackUp, End}
-use Rattle.walk.specs.Walk.{Frame, State, going, nothing, settle}
+use Rattle.search.specs.declared.tables.Walk.{Walk}
+use Rattle.search.specs.declared.tables.Outcome.{Outcome}
+use Rattle.search.specs.declared.tables.Outcome.TheVariants.{Open, Order, NoOrder}
+use Rattle.search.specs.declared.moves.Move.TheVariants.{Descend, Test, BackUp}
+use Rattle.walk.specs.Walk.{Frame, going, nothing, settle}
 use Rattle.search.specs.Candidates.{choice_by}
 use Rattle.search.specs.Tables.{Ranged, masks, frames, below_of, untried_of, choice_of, moving, standing_by, standing, due_by, due}
 

@@ -2,14 +2,14 @@
 --   outcome_of       whether the search goes on, or how it ended
 --   advance_reply    the reply to an advance
 --   level_reply      the flow on a level and its bound
-use Rattle.std.specs.Prelude.{ℕ, ◌-◌, Bool, cond, List, take, Ok, Err, Result, ◌==◌, slice_index}
+use Rattle.std.specs.Prelude.{ℕ, ◌-◌, cond, List, take, Ok, Err, Result, ◌==◌, slice_index}
 use Rattle.chip.specs.declared.refusal.Refusal.{Refusal}
 use Rattle.chip.specs.declared.refusal.Refusal.TheVariants.{AdvanceOfZero, AdvanceAfterEnd, NoOutcome, LevelOutside}
 use Rattle.rule.specs.Lists.{is_flow}
 use Rattle.rule.specs.Meaning.{Meaning}
 use Rattle.search.specs.declared.searching.Level.{Level}
-use Rattle.search.specs.declared.walk.Outcome.{Outcome}
-use Rattle.search.specs.declared.walk.Outcome.TheVariants.{Open, Order, NoOrder}
+use Rattle.search.specs.declared.tables.Outcome.{Outcome}
+use Rattle.search.specs.declared.tables.Outcome.TheVariants.{Open, Order, NoOrder}
 use Rattle.search.specs.Candidates.{time_of}
 use Rattle.walk.specs.Walk.{State, going, found, nothing, ended}
 

@@ -3,12 +3,12 @@
 --   plan                      the plan of an ended search
 --   plan_reply, plan_after    the reply to having it written, and the buffer after it
 --   same_reply                the reply to whether two searches have equal plans
-use Rattle.std.specs.Prelude.{◌≡◌, ℕ, zero, suc, ◌+◌, ◌/◌, ◌%◌, Bool, true, false, cond, ◌&&◌, List, [], ◌∷◌, ◌++◌, length, take, drop, Ok, Err, Result, ◌==◌, nat_le, slice_index}
+use Rattle.std.specs.Prelude.{ℕ, zero, suc, ◌+◌, ◌/◌, ◌%◌, Bool, true, false, cond, ◌&&◌, List, [], ◌∷◌, ◌++◌, length, take, drop, Ok, Err, Result, ◌==◌, nat_le, slice_index}
 use Rattle.chip.specs.declared.refusal.Refusal.{Refusal}
 use Rattle.chip.specs.declared.refusal.Refusal.TheVariants.{NoOutcome, ShortBuffer}
 use Rattle.rule.specs.Meaning.{Meaning}
 use Rattle.rule.specs.Questions.{asked_label}
-use Rattle.search.specs.declared.walk.Walk.{Walk}
+use Rattle.search.specs.declared.tables.Walk.{Walk}
 use Rattle.search.specs.Candidates.{time_of}
 use Rattle.walk.specs.Walk.{State, going, found, nothing, ended}
 

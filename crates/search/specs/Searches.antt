@@ -5,8 +5,8 @@
 use Rattle.std.specs.Prelude.{◌≡◌, ℕ, suc, ◌<◌, ◌≤◌, true, [], slice_index_or}
 use Rattle.rule.specs.Meaning.{Meaning, leading}
 use Rattle.rule.specs.Questions.{table}
-use Rattle.search.specs.declared.walk.Walk.{Walk}
-use Rattle.search.specs.declared.walk.Outcome.TheVariants.{Open, Order}
+use Rattle.search.specs.declared.tables.Walk.{Walk}
+use Rattle.search.specs.declared.tables.Outcome.TheVariants.{Open, Order}
 use Rattle.walk.specs.Walk.{unplaced, step, steps, after}
 use Rattle.search.specs.Tables.{Ranged, Row, filled, order_of, standing}
 

@@ -5,12 +5,11 @@
 --   standing     the state that the tables stand for
 --   due          the move that is due
 --   MovedOn, Put    what backing up and a placing change
-use Rattle.std.specs.Prelude.{◌≡◌, ℕ, ◌+◌, ◌-◌, ◌^◌, ◌≤◌, min, Bool, true, false, cond, List, [], ◌∷◌, map, length, take, drop, set, ◌==◌, slice_index_or, slice_set}
-use Rattle.rule.specs.declared.flow_set.FlowSet.{FlowSet}
+use Rattle.std.specs.Prelude.{◌≡◌, ℕ, ◌+◌, ◌-◌, ◌^◌, ◌≤◌, min, Bool, true, false, cond, List, [], ◌∷◌, map, length, take, drop, ◌==◌, slice_index_or, slice_set}
 use Rattle.rule.specs.FlowSets.{marks_of, put, empty}
-use Rattle.search.specs.declared.walk.Walk.{Walk}
-use Rattle.search.specs.declared.walk.Outcome.{Outcome}
-use Rattle.search.specs.declared.walk.Outcome.TheVariants.{Open, Order, NoOrder}
+use Rattle.search.specs.declared.tables.Walk.{Walk}
+use Rattle.search.specs.declared.tables.Outcome.{Outcome}
+use Rattle.search.specs.declared.tables.Outcome.TheVariants.{Open, Order, NoOrder}
 use Rattle.search.specs.declared.moves.Move.{Move}
 use Rattle.search.specs.declared.moves.Move.TheVariants.{Descend, Test, BackUp, End}
 use Rattle.rule.specs.Lists.{is_flow, distinct, has}

@@ -8,7 +8,7 @@ ghost use Rattle.search.specs.Tables.{Ranged, Settled, Entered, Tested, order_of
 
 use crate::candidates::{Side, chosen, gathered};
 use crate::moves::free_flows;
-use crate::walk::{Outcome, Walk};
+use crate::tables::{Outcome, Walk};
 use rule::{Bounds, FlowSet, Rule};
 
 // The candidates of a level, and whether it and every lower one is settled by ceiling.

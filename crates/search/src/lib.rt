@@ -11,7 +11,7 @@ mod opening;
 mod placing;
 mod plan;
 mod searching;
-mod walk;
+mod tables;
 
 pub use searching::{Level, Search};
-pub use walk::Outcome;
+pub use tables::Outcome;

@@ -5,7 +5,7 @@ ghost use Rattle.walk.specs.Walk.{unplaced};
 ghost use Rattle.search.specs.Tables.{Ranged, due, MovedOn, Put, filled};
 
 use crate::candidates::chosen;
-use crate::walk::{Outcome, Walk};
+use crate::tables::{Outcome, Walk};
 use rule::FlowSet;
 
 // What a walk does next: it places a candidate and descends, or places one on level 1 and tests the order, or backs

@@ -3,7 +3,7 @@ ghost use Rattle.search.specs.Searches.{Blank, Started};
 
 use crate::levels::enter;
 use crate::moves::move_on;
-use crate::walk::{Outcome, Walk};
+use crate::tables::{Outcome, Walk};
 use rule::{FlowSet, Rule};
 
 // A walk of so many flows, with nothing in its tables.

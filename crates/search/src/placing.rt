@@ -4,7 +4,7 @@ ghost use Rattle.search.specs.Tables.{Ranged};
 
 use crate::levels::{enter, test};
 use crate::moves::{Move, due, move_on, put};
-use crate::walk::{Outcome, Walk};
+use crate::tables::{Outcome, Walk};
 use rule::Rule;
 
 // Makes the placing that is due, and moves on to the next or to the end; an ended walk stays as it is.

@@ -3,7 +3,7 @@ ghost use Rattle.std.specs.Prelude.{◌≡◌, ◌+◌, ◌*◌, ◌≤◌, ◌+
 ghost use Rattle.search.specs.Plans.{level_bytes, tail_bytes, no_order_bytes, written, label_told, levels_told, fit_reply, fit_after, same_label, same_labels};
 ghost use Rattle.search.specs.Tables.{Ranged};
 
-use crate::walk::Walk;
+use crate::tables::Walk;
 use chip::Refusal;
 use rule::Rule;
 

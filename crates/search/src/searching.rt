@@ -1,7 +1,7 @@
 // A search for an order that passes, over the rule that it holds.
 ghost use Rattle.std.specs.Prelude.{◌≡◌, ◌≤◌, length};
 
-use crate::walk::Walk;
+use crate::tables::Walk;
 
 mod answers;
 mod progress;

@@ -1,9 +1,9 @@
 -- The choice among candidates: it is the flow with the largest key, and of several such the smallest. Assumes nothing.
 --   has_keep     a flow passes into what is kept exactly if it is in the set and passes the test
 --   chosen       the choice of a set that is not empty
-use Rattle.std.proofs.Common.{◌≡◌, ℕ, zero, suc, ◌+◌, ◌<◌, ◌≤◌, Bool, true, false, cond, not, ◌&&◌, ◌||◌, eqb, ltb, ◌⊎◌, List, [], ◌∷◌, length, get_or, sym, refl, ap, ◌∙◌, inl, inr, ⊎_elim, add-zero, arith}
+use Rattle.std.proofs.Common.{◌≡◌, ℕ, zero, suc, ◌+◌, ◌<◌, ◌≤◌, Bool, true, false, cond, ◌&&◌, eqb, ltb, ◌⊎◌, List, [], ◌∷◌, length, get_or, sym, refl, ap, ◌∙◌, inl, inr, ⊎_elim, add-zero, arith}
 use Rattle.std.proofs.lemmas.Bool.Decides.{nat_tests}
-use Rattle.std.proofs.lemmas.Bool.{cases_Bool, both_ways, ltb-true, ltb-false, eqb-true, or_cases, or_left, or_right}
+use Rattle.std.proofs.lemmas.Bool.{both_ways, ltb-true, ltb-false, eqb-true, or_cases, or_left, or_right}
 use Rattle.rule.specs.Lists.{among, has}
 use Rattle.rule.specs.FlowSets.{empty, members_from, members}
 use Rattle.rule.proofs.Members.{among_members}

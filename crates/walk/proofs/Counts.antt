@@ -4,12 +4,12 @@
 --   Due              the placings made and owed are within the most
 --   step_due         a placing keeps that
 --   most_mono        with more flows the most is more
-use Rattle.std.proofs.Common.{◌≡◌, ℕ, zero, suc, ◌+◌, ◌-◌, ◌*◌, ◌^◌, ◌<◌, ◌≤◌, Bool, true, false, cond, not, ◌&&◌, eqb, ltb, leb, ◌⊎◌, List, [], ◌∷◌, ◌++◌, length, get_or, sym, refl, ap, ◌∙◌, subst, inl, inr, ⊎_elim, mul-le-mul_right, mul-le-mul_left, arith, lit<}
+use Rattle.std.proofs.Common.{◌≡◌, ℕ, zero, suc, ◌+◌, ◌-◌, ◌*◌, ◌^◌, ◌<◌, ◌≤◌, Bool, true, false, cond, eqb, List, [], ◌∷◌, ◌++◌, length, get_or, sym, refl, ◌∙◌, subst, mul-le-mul_right, mul-le-mul_left, arith, lit<}
 use lib.ListN as ListN
 use Rattle.std.proofs.lemmas.Bool.Decides.{nat_tests}
-use Rattle.std.proofs.lemmas.Bool.{both_ways, cases_lt, and_parts, not-true, eqb-true, eqb-false}
+use Rattle.std.proofs.lemmas.Bool.{both_ways, eqb-false}
 use Rattle.std.proofs.lemmas.List.{length-append}
-use Rattle.rule.specs.Lists.{is_flow, among, times, distinct, has}
+use Rattle.rule.specs.Lists.{is_flow, times, distinct, has}
 use Rattle.rule.specs.FlowSets.{put, empty, size, members}
 use Rattle.rule.specs.Laws.{Lawful}
 use Rattle.rule.specs.Meaning.{Meaning}

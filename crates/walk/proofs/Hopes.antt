@@ -4,14 +4,13 @@
 --   hope_ceiling    at a level settled by ceiling its one candidate keeps the hope
 --   hope_floor      at any other level some flow with a floor does
 --   hope_full       with every level filled the order itself passes
-use Rattle.std.proofs.Common.{◌≡◌, ℕ, zero, suc, ◌+◌, ◌<◌, ◌≤◌, Bool, true, false, cond, not, ◌&&◌, eqb, ltb, leb, List, [], ◌∷◌, ◌++◌, length, is_some, Option, sym, refl, ap, ◌∙◌, subst, arith}
+use Rattle.std.proofs.Common.{◌≡◌, ℕ, ◌<◌, Bool, true, not, List, [], ◌∷◌, ◌++◌, length, is_some, sym, ap, ◌∙◌, subst, arith}
 use Rattle.std.proofs.lemmas.Bool.Decides.{nat_tests}
-use Rattle.std.proofs.lemmas.Bool.{and_parts, and_from, not-true, not_from_false}
+use Rattle.std.proofs.lemmas.Bool.{and_parts, and_from, not-true}
 use Rattle.std.proofs.lemmas.List.{append_assoc, append-nil, length-append, nil_from_length}
-use Rattle.rule.specs.Lists.{is_flow, among, times, distinct, proper, Order, marks, has}
-use Rattle.rule.specs.FlowSets.{put}
+use Rattle.rule.specs.Lists.{is_flow, among, distinct, proper, Order, marks, has}
 use Rattle.rule.specs.Laws.{Lawful}
-use Rattle.rule.specs.Meaning.{Meaning, Passes, PassesUnder, NoLater}
+use Rattle.rule.specs.Meaning.{Meaning, Passes, PassesUnder}
 use Rattle.rule.proofs.Members.{among_times, times_append}
 use Rattle.walk.specs.Walk.{unplaced, floor_at, ceiling_at, with_floor}
 use Rattle.walk.proofs.Chosen.{has_keep}

@@ -1,5 +1,5 @@
 -- The law of the walk. Assumes nothing.
-use Rattle.std.proofs.Common.{◌≡◌, ℕ, zero, suc, ◌+◌, ◌<◌, ◌≤◌, Bool, true, false, List, [], ◌++◌, sym, refl, ap, ◌∙◌, subst, add-zero, add-suc, arith}
+use Rattle.std.proofs.Common.{◌≡◌, ℕ, zero, suc, ◌+◌, ◌≤◌, Bool, true, false, List, [], sym, refl, ap, ◌∙◌, subst, add-zero, add-suc, arith}
 use Rattle.std.proofs.lemmas.Bool.{both_ways, not-true}
 use Rattle.std.proofs.lemmas.List.{append-nil}
 use Rattle.rule.specs.FlowSets.{empty}
@@ -7,7 +7,7 @@ use Rattle.rule.specs.Lists.{Order}
 use Rattle.rule.specs.Laws.{Lawful}
 use Rattle.rule.specs.Meaning.{Meaning, Passes}
 use Rattle.walk.specs.Choice.{Chosen}
-use Rattle.walk.specs.Walk.{Frame, State, going, found, nothing, placed, unplaced, floor_slack, ceiling_slack, with_ceiling, settled_by_ceiling, enter, next, step, steps, after, ended, count_of}
+use Rattle.walk.specs.Walk.{Frame, State, going, found, nothing, placed, unplaced, floor_slack, ceiling_slack, with_ceiling, enter, next, step, steps, after, ended, count_of}
 use Rattle.walk.specs.WalkLaw.{most_placings, NoOrderPasses, WalkLaw}
 use Rattle.walk.proofs.Chosen.{chosen}
 use Rattle.walk.proofs.Hopes.{Hope}

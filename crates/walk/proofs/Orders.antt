@@ -5,13 +5,13 @@
 --   unplaced_none, -push   no flow placed, and one more
 --   set_above       the flows above one of an order are the unplaced ones but for it
 --   split, last     a list at one of its members, and at its end
-use Rattle.std.proofs.Common.{◌≡◌, ℕ, zero, suc, ◌+◌, ◌<◌, ◌≤◌, Bool, true, false, cond, not, ◌&&◌, ◌||◌, eqb, ltb, leb, ◌⊎◌, List, [], ◌∷◌, ◌++◌, length, get_or, sym, refl, ap, ◌∙◌, inl, inr, ⊎_elim, arith}
+use Rattle.std.proofs.Common.{◌≡◌, ℕ, suc, ◌+◌, ◌≤◌, Bool, true, false, cond, not, ◌&&◌, ◌||◌, eqb, ltb, List, [], ◌∷◌, ◌++◌, length, get_or, sym, refl, ap, ◌∙◌, ⊎_elim, arith}
 use Rattle.std.proofs.lemmas.Bool.Decides.{nat_tests}
-use Rattle.std.proofs.lemmas.Bool.{both_ways, cases_eq, cases_Bool, eqb-true, eq-eqb, ne_eqb, and_parts}
+use Rattle.std.proofs.lemmas.Bool.{both_ways, cases_eq, cases_Bool, eqb-true, eq-eqb, ne_eqb}
 use Rattle.rule.specs.Lists.{is_flow, among, times, distinct, Order, marks, has}
-use Rattle.rule.specs.FlowSets.{put, first_flows, less, size}
+use Rattle.rule.specs.FlowSets.{put, first_flows}
 use Rattle.rule.proofs.Members.{among_times, times_append, marks_length, has_marks}
-use Rattle.rule.proofs.Distinct.{distinct_times, times_distinct, distinct_size, flow_range, among_flow, has_distinct, has_outside, among_push}
+use Rattle.rule.proofs.Distinct.{distinct_times, times_distinct, distinct_size, flow_range, among_flow, has_distinct, among_push}
 use Rattle.walk.specs.Walk.{unplaced}
 use Rattle.walk.proofs.Sets.{has_put_same, has_put_other, put_length, has_less, less_length, has_first, first_length, same_set, size_below, size_above}
 

@@ -3,10 +3,10 @@
 --   passes_struck         a flow struck out above leaves the others their bounds
 --   passes_test           the leading bounds of a list are all if, and only if, it passes
 --   passes_timely         each bound is then no later than its deadline
-use Rattle.std.proofs.Common.{◌≡◌, ℕ, zero, suc, ◌+◌, ◌<◌, ◌≤◌, Bool, true, false, cond, eqb, List, [], ◌∷◌, ◌++◌, length, get_or, take, is_some, Some, None, Option, sym, refl, ap, ◌∙◌, subst, arith}
+use Rattle.std.proofs.Common.{◌≡◌, ℕ, suc, ◌<◌, true, false, List, [], ◌∷◌, ◌++◌, length, get_or, take, is_some, Some, None, Option, sym, refl, ap, ◌∙◌, subst, arith}
 use Rattle.std.proofs.lemmas.Bool.{both_ways, eqb-true, eq-eqb}
 use Rattle.std.proofs.lemmas.List.{append_assoc, append-nil}
-use Rattle.rule.specs.Lists.{times, distinct, proper, Struck, none, kept, out}
+use Rattle.rule.specs.Lists.{distinct, proper, Struck, none, kept, out}
 use Rattle.rule.specs.Laws.{Lawful}
 use Rattle.rule.specs.Meaning.{Meaning, Passes, PassesUnder, InTime, NoLater, told, leading}
 use Rattle.rule.proofs.Members.{times_append}

@@ -3,16 +3,15 @@
 --   Leads, Left      some untried candidate leads to an order that passes
 --   Stands           what holds of a state
 --   enter_stands, step_stands    entering a level and a placing keep it
-use Rattle.std.proofs.Common.{◌≡◌, ℕ, zero, suc, ◌+◌, ◌<◌, ◌≤◌, Bool, true, false, cond, not, ◌&&◌, eqb, ltb, leb, ◌⊎◌, List, [], ◌∷◌, ◌++◌, length, is_some, sym, refl, ap, ◌∙◌, subst, inl, inr, ⊎_elim, arith}
+use Rattle.std.proofs.Common.{◌≡◌, ℕ, suc, ◌<◌, ◌≤◌, Bool, true, false, cond, not, eqb, ◌⊎◌, List, [], ◌∷◌, length, is_some, sym, refl, ap, ◌∙◌, subst, inl, inr, ⊎_elim, arith}
 use Rattle.std.proofs.lemmas.Bool.Decides.{nat_tests}
-use Rattle.std.proofs.lemmas.Bool.{both_ways, cases_eq, cases_Bool, and_parts, not-true, eqb-true, eqb-false}
-use Rattle.rule.specs.Lists.{is_flow, among, distinct, Order, marks, has}
+use Rattle.std.proofs.lemmas.Bool.{both_ways, cases_eq, and_parts, not-true, eqb-true, eqb-false}
+use Rattle.rule.specs.Lists.{is_flow, among, distinct, marks, has}
 use Rattle.rule.specs.FlowSets.{put, empty}
 use Rattle.rule.specs.Laws.{Lawful}
-use Rattle.rule.specs.Meaning.{Meaning, Passes}
+use Rattle.rule.specs.Meaning.{Meaning}
 use Rattle.rule.proofs.Members.{marks_length, has_marks}
-use Rattle.rule.proofs.Distinct.{distinct_parts, flow_range, has_outside}
-use Rattle.walk.specs.Choice.{choice, keep}
+use Rattle.rule.proofs.Distinct.{flow_range, has_outside}
 use Rattle.walk.specs.Walk.{Frame, State, going, found, nothing, placed, unplaced, floor_at, ceiling_at, floor_slack, ceiling_slack, with_floor, with_ceiling, by_ceiling, settled_by_ceiling, candidates, settle, enter, next, passes, place, step}
 use Rattle.walk.specs.WalkLaw.{SoundOrder}
 use Rattle.walk.proofs.Chosen.{has_keep, keep_length, some_empty, chosen}

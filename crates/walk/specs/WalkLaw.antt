@@ -8,7 +8,7 @@ use Rattle.rule.specs.FlowSets.{empty}
 use Rattle.rule.specs.Lists.{Order}
 use Rattle.rule.specs.Meaning.{Meaning, Passes, NoLater}
 use Rattle.walk.specs.Choice.{Chosen}
-use Rattle.walk.specs.Walk.{Frame, State, found, nothing, placed, unplaced, floor_slack, ceiling_slack, with_ceiling, by_ceiling, settled_by_ceiling, next, after, steps, ended, count_of}
+use Rattle.walk.specs.Walk.{Frame, found, nothing, placed, unplaced, floor_slack, ceiling_slack, with_ceiling, by_ceiling, settled_by_ceiling, next, after, steps, ended, count_of}
 
 -- n + n (n - 1) + .. + n!, a sum of n terms
 abbrev pub most_placings : ℕ → ℕ

@@ -9,7 +9,7 @@ ghost use Rattle.walk.specs.Walk.{count_of};
 use crate::levels::order;
 use crate::plan::{same_labels, write_no_order, write_order};
 use crate::searching::{Level, Search};
-use crate::walk::Outcome;
+use crate::tables::Outcome;
 use chip::Refusal;
 use rule::Rule;
 

@@ -8,7 +8,7 @@ ghost use Rattle.walk.specs.Walk.{after, steps};
 use crate::opening::start;
 use crate::placing::step_on;
 use crate::searching::Search;
-use crate::walk::Outcome;
+use crate::tables::Outcome;
 use chip::Refusal;
 use rule::Rule;
 

@@ -1,5 +1,5 @@
 -- Why `chosen` meets its contract. Assumes nothing.
-use Rattle.std.proofs.Common.{◌≡◌, ℕ, ltb, ap, ◌∙◌, arith}
+use Rattle.std.proofs.Common.{ℕ, ltb, ap, ◌∙◌, arith}
 use Rattle.std.proofs.lemmas.Bool.{cond-true, cond-false, lt-ltb, le-ltb}
 use Rattle.rule.specs.FlowSets.{marks_of, members}
 use Rattle.walk.specs.Choice.{best}

@@ -1,5 +1,5 @@
 -- Why `gathered` meets its contract. Assumes nothing.
-use Rattle.std.proofs.Common.{◌≡◌, ◌-◌, Bool, List, set, replicate, sym, subst}
+use Rattle.std.proofs.Common.{◌-◌, Bool, List, set, replicate, sym, subst}
 use Rattle.rule.specs.FlowSets.{marks_of}
 use Rattle.rule.proofs.FlowSets.{marks_of_length}
 use Rattle.search.specs.Candidates.{side_told}

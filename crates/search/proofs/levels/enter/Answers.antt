@@ -1,5 +1,5 @@
 -- Why `enter` meets its contract. Assumes nothing.
-use Rattle.std.proofs.Common.{◌≡◌, Bool, List, sym, ◌∙◌, subst}
+use Rattle.std.proofs.Common.{◌≡◌, Bool, List, ◌∙◌, subst}
 use Rattle.rule.specs.FlowSets.{marks_of}
 use Rattle.rule.proofs.FlowSets.{marks_of_length}
 use Rattle.search.specs.Tables.{Row}

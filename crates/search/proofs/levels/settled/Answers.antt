@@ -1,5 +1,5 @@
 -- Why `settled` meets its contract. Assumes nothing.
-use Rattle.std.proofs.Common.{◌≡◌, Bool, not, ◌&&◌, List, sym, refl, ap, ◌∙◌}
+use Rattle.std.proofs.Common.{Bool, not, ◌&&◌, sym, ap, ◌∙◌}
 use Rattle.rule.specs.FlowSets.{marks_of, empty}
 use Rattle.rule.proofs.FlowSets.{marks_of_length}
 use Rattle.walk.specs.Walk.{with_ceiling}

@@ -1,5 +1,5 @@
 -- Why `free_flows` meets its contract. Assumes nothing.
-use Rattle.std.proofs.Common.{◌≡◌, Bool, false, List, get_or, take, drop, sym, ap, ◌∙◌, arith}
+use Rattle.std.proofs.Common.{Bool, false, List, get_or, take, drop, sym, ap, ◌∙◌, arith}
 use Rattle.rule.specs.FlowSets.{put}
 use Rattle.walk.specs.Walk.{unplaced}
 use Rattle.walk.proofs.Orders.{unplaced_none, unplaced_push}

@@ -1,5 +1,5 @@
 -- Why `move_on` meets its contract. Assumes nothing.
-use Rattle.std.proofs.Common.{◌≡◌, ℕ, sym, refl, ap, ◌∙◌, arith}
+use Rattle.std.proofs.Common.{sym, ◌∙◌, arith}
 use Rattle.search.proofs.Tabled.{back_stands, end_stands, stay_stands, due_apart, no_order_apart}
 use Rattle.search.proofs.moves.move_on.Goals as goal
 

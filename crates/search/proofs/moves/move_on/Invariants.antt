@@ -1,6 +1,6 @@
 -- What the loop of `move_on` keeps, and why it ends. Assumes nothing.
 use Rattle.std.proofs.Common.{◌≡◌, ◌-◌, ◌≤◌}
-use Rattle.search.specs.declared.walk.Outcome.TheVariants.{Open}
+use Rattle.search.specs.declared.tables.Outcome.TheVariants.{Open}
 use Rattle.search.specs.Tables.{Ranged, SameTables, moving}
 use Rattle.search.proofs.moves.move_on.Given as goal
 

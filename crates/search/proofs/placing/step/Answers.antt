@@ -1,5 +1,5 @@
 -- Why `step` meets its contract. Assumes nothing.
-use Rattle.std.proofs.Common.{◌≡◌, sym, ◌∙◌, inl, inr, ⊎_elim}
+use Rattle.std.proofs.Common.{sym, ◌∙◌, inl, inr, ⊎_elim}
 use Rattle.search.proofs.Stepping.{put_ranged, lowered_ranged, descended_stands, descended_walked, tried_stands, tried_walked, stayed, test_open, test_level, descend_open, descend_level}
 use Rattle.search.proofs.placing.step.Goals as goal
 

@@ -1,5 +1,5 @@
 -- Why `same_labels` meets its contract. Assumes nothing.
-use Rattle.std.proofs.Common.{◌∙◌, ap₂, arith}
+use Rattle.std.proofs.Common.{◌∙◌, ap₂}
 use Rattle.search.specs.Plans.{same_label}
 use Rattle.search.proofs.Planned.{labels_apart, labels_more, labels_end, labels_all}
 use Rattle.search.proofs.plan.same_labels.Goals as goal

@@ -1,5 +1,5 @@
 -- What the loop of `write_levels` keeps. Assumes nothing.
-use Rattle.std.proofs.Common.{◌≡◌, ◌*◌, ◌++◌, length, drop}
+use Rattle.std.proofs.Common.{◌≡◌, ◌*◌, ◌++◌, drop}
 use Rattle.search.specs.Plans.{levels_told}
 use Rattle.search.proofs.plan.write_levels.Given as goal
 

@@ -1,5 +1,4 @@
 -- Why `write_order` meets its contract. Assumes nothing.
-use Rattle.std.proofs.Common.{arith}
 use Rattle.search.proofs.Planned.{order_short, order_written}
 use Rattle.search.proofs.plan.write_order.Goals as goal
 
