@@ -1,5 +1,5 @@
 -- Sets and the flows kept of a list: what two sets have in common, what one has beyond another. Assumes nothing.
-use Rattle.std.proofs.Common.{◌≡◌, ℕ, zero, suc, ◌+◌, ◌-◌, ◌≤◌, Bool, true, false, cond, not, ◌&&◌, ◌||◌, eqb, leb, ◌⊎◌, List, [], ◌∷◌, length, get_or, filter, sym, refl, ap, ◌∙◌, inl, inr, add-zero, arith}
+use Rattle.std.proofs.Common.{◌≡◌, ℕ, zero, suc, ◌+◌, ◌≤◌, Bool, true, false, cond, not, ◌&&◌, ◌||◌, eqb, leb, ◌⊎◌, List, [], ◌∷◌, length, get_or, filter, sym, refl, ap, ◌∙◌, inl, inr, add-zero, arith}
 use Rattle.std.proofs.lemmas.Bool.{and_from, or_cases, or_left, or_right, le-leb, eqb-true, eq-eqb, cases_lt, or_from, ne_eqb}
 use Rattle.rule.specs.Lists.{is_flow, among, distinct, within_from, within, marks, has}
 use Rattle.rule.specs.FlowSets.{both, less, empty, members_from, members}

@@ -1,7 +1,7 @@
 -- What the bound that a rule tells is, in the words of its equation. Assumes nothing.
 --   equation_D, equation_L, equation_J    the right side of a rule's equation, by the time r
 --   Told, ToldJ                          a reply tells the least solution within the deadline, or that there is none
-use Rattle.std.specs.Prelude.{◌≡◌, ℕ, ◌≤◌, ◌⊎◌, List, reverse, Some, None, Ok, Err, Option, Result, ◌≢◌}
+use Rattle.std.specs.Prelude.{ℕ, ◌≤◌, ◌⊎◌, List, reverse, Some, None, Ok, Err, Option, Result, ◌≢◌}
 use Rattle.chip.specs.declared.refusal.Refusal.{Refusal}
 use Rattle.chip.specs.declared.parameters.FlowParameters.{FlowParameters}
 use Rattle.rule.specs.Meaning.{Passes}

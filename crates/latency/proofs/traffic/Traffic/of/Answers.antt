@@ -1,5 +1,5 @@
 -- Why `Traffic::of` meets its contract. Assumes nothing.
-use Rattle.std.proofs.Common.{◌≡◌, ℕ, ap, ◌∙◌, arith}
+use Rattle.std.proofs.Common.{ℕ, ap, ◌∙◌, arith}
 use Rattle.interference.specs.Tables.{chip_of}
 use Rattle.interference.proofs.Sheets.{sheet_range}
 use Rattle.latency.proofs.traffic.Traffic.of.Goals as goal
