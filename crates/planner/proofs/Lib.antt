@@ -1,2 +1,3 @@
 mod Places
 mod Offered
+mod Searched

@@ -1,5 +1,5 @@
 -- Why `number_of` meets its contract. Assumes nothing.
-use Rattle.std.proofs.Common.{◌≡◌, sym, ap, ◌∙◌, zero-add, arith}
+use Rattle.std.proofs.Common.{sym, ap, ◌∙◌, zero-add, arith}
 use Rattle.chip.specs.declared.parameters.FlowParameters.{FlowParameters}
 use Rattle.sheet.specs.Flows.{said_of}
 use Rattle.sheet.specs.Sheets.{flows_of}

@@ -4,7 +4,6 @@ use Rattle.std.specs.List.{slice_get}
 use Rattle.std.proofs.lemmas.List.{take_all, take_more, take_more_set, map_push, length-set}
 use Rattle.std.proofs.lemmas.Option.{slice_get-get_or}
 use Rattle.chip.specs.declared.parameters.FlowParameters.{FlowParameters}
-use Rattle.sheet.specs.declared.pair.Pair as sheet
 use Rattle.job.specs.Jobs.{contents}
 use Rattle.precedence.specs.declared.pair.Pair.{Pair}
 use Rattle.layout.proofs.Laying.{entry_at, few_pairs}

@@ -5,7 +5,6 @@ use Rattle.job.specs.Jobs.{contents}
 use Rattle.rule.specs.Meaning.{Meaning}
 use Rattle.precedence.specs.declared.pair.Pair.{Pair}
 use Rattle.reserve.specs.declared.reserve.Reserve.{Reserve}
-use Rattle.precedence.specs.Held.{pairs_of}
 use Rattle.any_rule.specs.declared.any_rule.AnyRule.{AnyRule}
 use Rattle.any_rule.specs.AnyRules.{meaning_any, meaning_by}
 use Rattle.layout.proofs.Laying.{few_pairs}

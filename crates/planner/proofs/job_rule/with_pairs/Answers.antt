@@ -1,5 +1,5 @@
 -- Why `with_pairs` meets its contract. Assumes nothing.
-use Rattle.std.proofs.Common.{◌≡◌, ℕ, ◌+◌, List, [], get_or, drop, sym, refl, ap, ◌∙◌, arith}
+use Rattle.std.proofs.Common.{◌≡◌, ◌+◌, List, get_or, drop, sym, refl, ap, ◌∙◌}
 use Rattle.std.proofs.lemmas.List.{drop_more, drop_all}
 use Rattle.precedence.specs.declared.pair.Pair.{Pair}
 use Rattle.reserve.specs.declared.reserve.Reserve.{Reserve}
