@@ -1,4 +1,4 @@
--- What the loop of `DirectRule::bounds` keeps. Assumes nothing.
+-- What the loop of `RuleD::bounds` keeps. Assumes nothing.
 use Rattle.std.proofs.Common.{◌≡◌, take}
 use Rattle.rule.specs.FlowSets.{marks_of}
 use Rattle.rule.specs.Lists.{marks}

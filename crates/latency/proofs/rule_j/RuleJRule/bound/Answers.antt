@@ -1,4 +1,4 @@
--- Why `JitterRule::bound` meets its contract. Assumes nothing.
+-- Why `RuleJ::bound` meets its contract. Assumes nothing.
 use Rattle.std.proofs.Common.{ℕ, List, length, Ok, sym, ap, ◌∙◌, subst}
 use Rattle.chip.specs.declared.parameters.FlowParameters.{FlowParameters}
 use Rattle.rule.specs.Lists.{proper}

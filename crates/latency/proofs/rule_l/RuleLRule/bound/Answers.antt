@@ -1,4 +1,4 @@
--- Why `LinkedRule::bound` meets its contract. Assumes nothing.
+-- Why `RuleL::bound` meets its contract. Assumes nothing.
 use Rattle.std.proofs.Common.{◌≡◌, List, length, Ok, sym, ap, ◌∙◌, subst}
 use Rattle.chip.specs.declared.parameters.FlowParameters.{FlowParameters}
 use Rattle.rule.specs.Lists.{proper}

@@ -1,4 +1,4 @@
--- Why `LinkedRule::bounds` meets its contract. Assumes nothing.
+-- Why `RuleL::bounds` meets its contract. Assumes nothing.
 use Rattle.std.proofs.Common.{◌≡◌, ℕ, get_or, take, sym, ap, ◌∙◌, arith}
 use Rattle.rule.specs.FlowSets.{members}
 use Rattle.rule.proofs.Told.{sound, list_short, all_told, telling_more, telling_ends, telling_all}

@@ -1,4 +1,4 @@
--- What the loop of `LinkedRule::bounds` keeps. Assumes nothing.
+-- What the loop of `RuleL::bounds` keeps. Assumes nothing.
 use Rattle.std.proofs.Common.{◌≡◌, take}
 use Rattle.rule.specs.FlowSets.{marks_of}
 use Rattle.rule.specs.Lists.{marks}
