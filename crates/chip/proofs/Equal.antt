@@ -1,5 +1,5 @@
 -- Equality field by field is equality. Assumes nothing.
-use Rattle.std.proofs.Common.{◌≡◌, Decides, rules, arith}
+use Rattle.std.proofs.Common.{◌≡◌, Decides, rules}
 use Rattle.chip.specs.declared.parameters.Router.{Router}
 use Rattle.chip.specs.declared.parameters.FlowParameters.{FlowParameters}
 use Rattle.chip.specs.Equality.{router_eq, flow_eq}
