@@ -1,3 +1,4 @@
 pub mod PairLists
 pub mod Jobs
 pub mod Equality
+pub mod EqualityLemmas

@@ -7,18 +7,12 @@ use Rattle.std.proofs.lemmas.Bool.{false≢true, both_ways, not-false}
 pub denied : {P : Type 0} → (P → ⊥) → Decides false P
 denied no-p = (λ e. absurd (false≢true e), λ p. absurd (no-p p))
 
--- what `!=` tells
-abbrev pub Unlike : Bool → Type 0 → Type 0
-Unlike r P = (k : Bool) × Decides k P × (r ≡ not k)
+-- what `!=` tells, which denies a test k that decides P
+pub unequal : {P : Type 0} (r k : Bool) → Decides k P → r ≡ not k → r ≡ true → P → ⊥
+unequal r k decides denies e p = both_ways r (denies ∙ ap not (decides.1 p)) e
 
-pub unlike : {P : Type 0} (r k : Bool) → Decides k P → r ≡ not k → Unlike r P
-unlike r k d e = (k, d, e)
-
-pub unequal : {P : Type 0} (r : Bool) → Unlike r P → r ≡ true → P → ⊥
-unequal r u e p = both_ways r (u.2 ∙ ap not (u.1.1 p)) e
-
-pub equal : {P : Type 0} (r : Bool) → Unlike r P → r ≡ false → P
-equal r u e = u.1.0 (not-false u.0 (sym u.2 ∙ e))
+pub equal : {P : Type 0} (r k : Bool) → Decides k P → r ≡ not k → r ≡ false → P
+equal r k decides denies e = decides.0 (not-false k (sym denies ∙ e))
 
 module _ {X Y : Type 0} (f : X → Y) (xs ys : List X) where
   pub as_long : (m n : ℕ) → m ≤ length xs → n ≤ length ys → map f (take m xs) ≡ map f (take n ys) → m ≡ n

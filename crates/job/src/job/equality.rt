@@ -1,6 +1,7 @@
 // When two jobs are equal.
 ghost use Rattle.std.specs.Prelude.{◌≡◌, Decides};
-ghost use Rattle.job.specs.Equality.{job_eq, job_laws};
+ghost use Rattle.job.specs.Equality.{job_eq};
+ghost use Rattle.job.specs.EqualityLemmas.{job_laws};
 ghost use Rattle.job.specs.Jobs.{contents, ticks_of};
 ghost use Rattle.std.specs.Cmp.Rules.{comparing};
 ghost use Rattle.std.proofs.Common.{rules, arith};

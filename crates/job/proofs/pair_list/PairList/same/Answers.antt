@@ -2,7 +2,7 @@ use Rattle.std.proofs.Common.{◌≡◌, ℕ, map, take, sym, refl, ap, ◌∙�
 use Rattle.std.proofs.lemmas.List.{map-id}
 use Rattle.sheet.specs.declared.pair.Pair.{Pair}
 use Rattle.sheet.proofs.PairsEqual.{pair_decides}
-use Rattle.sheet.proofs.Same.{denied, unlike, unequal, equal, as_long, same_more, same_at}
+use Rattle.sheet.proofs.Same.{denied, unequal, equal, as_long, same_more, same_at}
 use Rattle.job.proofs.pair_list.PairList.same.Goals as goal
 
 -- what stands past the end of a table of pairs
@@ -20,7 +20,7 @@ unfolding blank
 returns-then-ne c =
     let a = c.args.self.now in
     let b = c.args.other.now in
-    denied (λ e. unequal c.ne.result (unlike _ _ (pair_decides _ _) c.ne.ensures) c.if-ne.true
+    denied (λ e. unequal c.ne.result _ (pair_decides _ _) c.ne.ensures c.if-ne.true
     (same_at (λ (q : Pair). q) a.pairs b.pairs a.count c.loop-i.i blank blank (omega arith) (omega arith) c.loop-i-test.true
     (ap (map (λ (q : Pair). q)) (e ∙ ap (λ (n : ℕ). take n b.pairs) (sym c.if-self-other.false)))))
 
@@ -29,7 +29,7 @@ unfolding blank
 loop-i-preserved c =
     let a = c.args.self.now in
     let b = c.args.other.now in
-    same_more (λ (q : Pair). q) a.pairs b.pairs c.loop-i.i blank blank (omega arith) (omega arith) c.loop-i.invariant (equal c.ne.result (unlike _ _ (pair_decides _ _) c.ne.ensures) c.if-ne.false)
+    same_more (λ (q : Pair). q) a.pairs b.pairs c.loop-i.i blank blank (omega arith) (omega arith) c.loop-i.invariant (equal c.ne.result _ (pair_decides _ _) c.ne.ensures c.if-ne.false)
 
 pub returns : goal.returns
 returns c =

@@ -1,7 +1,7 @@
 -- Why `==` on jobs meets its contract. Assumes nothing.
 use Rattle.std.proofs.Common.{rules, Decides, ◌≡◌}
 use Rattle.std.specs.Bool.{one_answer}
-use Rattle.job.specs.Equality.{contents_decides}
+use Rattle.job.specs.EqualityLemmas.{contents_decides}
 use Rattle.job.specs.Jobs.{contents}
 use Rattle.job.proofs.job.equality.JobPartialEq.eq.Goals as goal
 
