@@ -14,7 +14,7 @@ use latency::{RuleD, RuleJ, RuleL};
 use rule::{Bounds, FlowSet, Rule};
 use sheet::{Letter, Sheet};
 
-// A rule D, J or L.
+// A rule D, J or L. The letter is known only when the program runs, so each answer asks which of the three it is.
 #[derive(Drop)]
 pub enum AnyRule {
     D(RuleD),
@@ -35,6 +35,7 @@ impl AnyRule {
     }
 }
 
+// Seven matches: a method that lends the rule as `&dyn Rule` would hand out a dyn value, which the kit's gate refuses.
 impl Rule for AnyRule {
     ghost meaning = { meaning_any };
 

@@ -1,4 +1,5 @@
 pub mod Equal
 pub mod Marks
 pub mod Meeting
+pub mod Sound
 pub mod Walks

@@ -1,6 +1,7 @@
 -- What the mark table of a route holds: a mark at each link of the route, and nowhere else. Assumes nothing.
-use Rattle.std.proofs.Common.{◌≡◌, ℕ, zero, suc, ◌+◌, ◌*◌, ◌/◌, ◌%◌, ◌<◌, ◌≤◌, Bool, true, false, ◌||◌, eqb, ◌⊎◌, List, [], ◌∷◌, length, get_or, set, replicate, sym, refl, ◌∙◌, subst, inl, inr, ⊎_elim, arith, length-set}
+use Rattle.std.proofs.Common.{◌≡◌, ℕ, zero, suc, ◌+◌, ◌*◌, ◌/◌, ◌%◌, ◌<◌, ◌≤◌, Bool, true, false, cond, ◌||◌, eqb, ◌⊎◌, List, [], ◌∷◌, length, get_or, set, replicate, sym, refl, ◌∙◌, subst, inl, inr, ⊎_elim, ap, arith, length-set}
 use Rattle.std.proofs.lemmas.List.{get_or-set_same, get_or-set_other}
+use Rattle.std.proofs.lemmas.List.Sums.{sum_by-set, sum_by-cons}
 use Rattle.std.proofs.lemmas.Bool.{false≢true, cases_Bool, or_right}
 use Rattle.std.proofs.lemmas.Bool.Decides.{nat_tests, eqb_tells}
 use Rattle.chip.specs.declared.parameters.Router.{Router}
@@ -10,6 +11,7 @@ use Rattle.chip.specs.declared.port.Port.{Port}
 use Rattle.chip.specs.declared.port.Port.TheVariants.{In, Out, East, West, North, South}
 use Rattle.chip.specs.Flows.{on_mesh}
 use Rattle.chip.specs.Routes.{rank, link, gap, distance, onward, beyond, walk, links, among, marked, no_marks, route_marks, count}
+use Rattle.chip.proofs.Sound.{from_mesh, to_mesh}
 use Rattle.chip.proofs.Walks.{nearer, stays, no_marks_length}
 
 -- a link of a router on the mesh is one of the 216
@@ -86,10 +88,11 @@ route_long p = length_marked (links p) no_marks ∙ no_marks_length
 
 -- one mark more counts one more
 count_set : (table : List Bool) (k : ℕ) → k < length table → get_or table k false ≡ false → count (set table k true) ≡ suc (count table)
-count_set [] k h e = absurd (omega arith)
-count_set (b ∷ table) zero h e = rw e (omega arith)
-count_set (b ∷ table) (suc k) h e =
-    let more = count_set table k (omega arith) e in omega (arith, more)
+count_set table k h e =
+    let weight : Bool → ℕ = λ mark. cond mark 1 0 in
+    let more = sum_by-set weight table k true false h in
+    let none : weight (get_or table k false) ≡ 0 = ap weight e in
+    omega (arith, more, none)
 
 -- how far the router of a link lies from another
 to_go : Router → ℕ → ℕ
@@ -143,7 +146,10 @@ count_walk (suc n) here there table h t e long fresh =
 
 count_blank : (n : ℕ) → count (replicate n false) ≡ 0
 count_blank zero = refl
-count_blank (suc n) = let rest = count_blank n in omega (arith, rest)
+count_blank (suc n) =
+    let first = sum_by-cons (λ mark. cond mark 1 0) false (replicate n false) in
+    let rest = count_blank n in
+    omega (arith, first, rest)
 
 -- a route has its two end links, and one link for each step between
 pub route_count : (p : FlowParameters) → on_mesh p.source ≡ true → on_mesh p.destination ≡ true → count (route_marks p) ≡ 2 + distance p.source p.destination
@@ -164,13 +170,6 @@ route_count p h t =
         go : ((eqb k (link In p.source) ≡ true) × (k ≡ link In p.source)) ⊎ ((eqb k (link In p.source) ≡ false) × (k ≡ link In p.source → ⊥)) → (k < 36) ⊎ (distance p.source p.destination < to_go p.destination k)
         go (inl s) = inl (grind (arith, nat_tests))
         go (inr s) = absurd (false≢true (sym (unmarked k) ∙ (rw (get_or-set_other no_marks (link In p.source) k true false s.1) at m)))
-
--- the endpoints of a flow lie on the mesh
-from_mesh : (f : Flow) → on_mesh f.parameters.source ≡ true
-from_mesh f = let h = f.placed in grind (arith, nat_tests)
-
-to_mesh : (f : Flow) → on_mesh f.parameters.destination ≡ true
-to_mesh f = let h = f.placed in grind (arith, nat_tests)
 
 pub flow_mark : (f : Flow) (k : ℕ) → get_or (route_marks f.parameters) k false ≡ among k (links f.parameters)
 flow_mark f k = route_mark f.parameters (from_mesh f) (to_mesh f) k

@@ -1,6 +1,7 @@
 -- When two lists of links meet, and so what sharing is. Assumes nothing.
-use Rattle.std.proofs.Common.{◌≡◌, ℕ, Bool, true, false, eqb, List, [], ◌∷◌, sym, refl, subst, ⊎_elim}
-use Rattle.std.proofs.lemmas.Bool.{false≢true, cases_Bool, or_cases, or_left, or_right, eqb-true, eq-eqb}
+use Rattle.std.proofs.Common.{◌≡◌, ℕ, zero, suc, Bool, true, false, ◌&&◌, eqb, List, [], ◌∷◌, get_or, ◌∙◌, sym, refl, subst, ⊎_elim}
+use Rattle.std.specs.List.{list_any, zip}
+use Rattle.std.proofs.lemmas.Bool.{false≢true, or_cases, or_left, or_right, and_parts, and_from, eqb-true, eq-eqb}
 use Rattle.chip.specs.declared.parameters.FlowParameters.{FlowParameters}
 use Rattle.chip.specs.declared.port.Port.TheVariants.{In}
 use Rattle.chip.specs.Routes.{link, links, among, meet, shares, Sharing}
@@ -39,8 +40,27 @@ pub shares_common : (p q : FlowParameters) → shares p q ≡ true → Common (l
 unfolding shares
 shares_common p q e = common (links p) (links q) e
 
-pub shares_none : (p q : FlowParameters) → (Common (links p) (links q) → ⊥) → shares p q ≡ false
-shares_none p q n = ⊎_elim (λ e. absurd (n (shares_common p q e))) (λ e. e) (cases_Bool (shares p q))
+-- two tables of marks have one in common exactly where the flows share
+some_both : (xs ys : List Bool) (k : ℕ) → get_or xs k false ≡ true → get_or ys k false ≡ true → list_any (λ m. m.0 && m.1) (zip xs ys) ≡ true
+some_both [] ys k a b = absurd (false≢true a)
+some_both (x ∷ xs) [] k a b = absurd (false≢true b)
+some_both (x ∷ xs) (y ∷ ys) zero a b = or_left (x && y) _ (and_from x y a b)
+some_both (x ∷ xs) (y ∷ ys) (suc k) a b = or_right (x && y) _ (some_both xs ys k a b)
+
+both_some : (xs ys : List Bool) → list_any (λ m. m.0 && m.1) (zip xs ys) ≡ true → (k : ℕ) × (get_or xs k false ≡ true) × (get_or ys k false ≡ true)
+both_some [] ys e = absurd (false≢true e)
+both_some (x ∷ xs) [] e = absurd (false≢true e)
+both_some (x ∷ xs) (y ∷ ys) e =
+    ⊎_elim
+    (λ here. let parts = and_parts x y here in (zero, parts.0, parts.1))
+    (λ later. let m = both_some xs ys later in (suc m.0, m.1, m.2))
+    (or_cases (x && y) (list_any (λ m. m.0 && m.1) (zip xs ys)) e)
+
+pub tables_meet : (p q : FlowParameters) (xs ys : List Bool) → ((k : ℕ) → get_or xs k false ≡ among k (links p)) → ((k : ℕ) → get_or ys k false ≡ among k (links q)) → list_any (λ m. m.0 && m.1) (zip xs ys) ≡ shares p q
+tables_meet p q xs ys mine theirs =
+    agree _ _
+    (λ e. let m = both_some xs ys e in shares_some p q (m.0, sym (mine m.0) ∙ m.1, sym (theirs m.0) ∙ m.2))
+    (λ e. let c = shares_common p q e in some_both xs ys c.0 (mine c.0 ∙ c.1) (theirs c.0 ∙ c.2))
 
 turned : (p q : FlowParameters) → shares p q ≡ true → shares q p ≡ true
 turned p q e = let c = shares_common p q e in shares_some q p (c.0, c.2, c.1)

@@ -26,22 +26,20 @@ begins p = refl
 
 -- a packet on its way: `left` steps from its destination, the links behind it marked
 pub record Underway (left : ℕ) (here there : Router) (table result : List Bool) : Type 0 where
-  pub inside : on_mesh here ≡ true
   pub far : distance here there ≡ left
   pub rest : marked (walk left here there) table ≡ result
   pub sized : length table ≡ 216
 
-pub sets_out : (p : FlowParameters) → on_mesh p.source ≡ true →
+pub sets_out : (p : FlowParameters) →
     Underway (distance p.source p.destination) p.source p.destination (set no_marks (link In p.source) true) (route_marks p)
-sets_out p h = record { inside = h; far = refl; rest = begins p; sized = length-set no_marks _ true ∙ no_marks_length }
+sets_out p = record { far = refl; rest = begins p; sized = length-set no_marks _ true ∙ no_marks_length }
 
 -- one step on, where n - i steps were left
-pub goes_on : (n i : ℕ) (here there : Router) (table result : List Bool) → i < n → on_mesh there ≡ true → Underway (n - i) here there table result →
+pub goes_on : (n i : ℕ) (here there : Router) (table result : List Bool) → i < n → Underway (n - i) here there table result →
     Underway (n - (i + 1)) (beyond (onward here there) here) there (set table (link (onward here there) here) true) result
-goes_on n i here there table result h t u =
+goes_on n i here there table result h u =
     let e : n - i ≡ suc (n - (i + 1)) = omega arith in
     record {
-      inside = stays here there u.inside t;
       far = nearer here there _ (u.far ∙ e);
       rest = subst (λ m. marked (walk m here there) table ≡ result) e u.rest;
       sized = length-set table _ true ∙ u.sized;

@@ -3,3 +3,4 @@ pub mod Refusals
 pub mod Flows
 pub mod Reserves
 pub mod Routes
+pub mod Texts

@@ -3,7 +3,7 @@
 --   onward      X-Y routing: along the row first, then along the column
 --   links       the route of a flow, link by link
 --   shares      some link is in both routes
-use Rattle.std.specs.Prelude.{◌≡◌, ℕ, zero, suc, ◌+◌, ◌-◌, ◌*◌, Bool, true, false, cond, ◌||◌, ◌↔◌, List, [], ◌∷◌, replicate, ◌==◌, nat_lt, slice_set}
+use Rattle.std.specs.Prelude.{◌≡◌, ℕ, zero, suc, ◌+◌, ◌-◌, ◌*◌, Bool, true, false, cond, ◌||◌, ◌↔◌, List, [], ◌∷◌, replicate, ◌==◌, nat_lt, count_by, slice_set}
 use Rattle.chip.specs.declared.parameters.Router.{Router}
 use Rattle.chip.specs.declared.parameters.FlowParameters.{FlowParameters}
 use Rattle.chip.specs.declared.port.Port.{Port}
@@ -86,8 +86,7 @@ route_marks p = marked (links p) no_marks
 
 -- how many marks a table has
 abbrev pub count : List Bool → ℕ
-count [] = 0
-count (mark ∷ table) = cond mark 1 0 + count table
+count = count_by (λ mark. mark)
 
 -- What sharing is, in plain words.
 pub record Sharing : Type 0 where

@@ -1,20 +1,19 @@
 // A flow that exists: its parameters keep the rules of the chip.
-ghost use Rattle.std.specs.Prelude.{◌≡◌, ◌<◌, ◌≤◌, ◌≢◌};
+ghost use Rattle.std.specs.Prelude.{◌≡◌};
 ghost use Rattle.chip.specs.Flows.{Answers, flow_fault};
 
-use crate::parameters::{FlowParameters, MESH_SIDE};
+use crate::mesh_router::MeshRouter;
+use crate::parameters::FlowParameters;
 use crate::refusal::Refusal;
 
 // The longest period, in ticks.
 pub const MAX_PERIOD: u32 = 1_000_000;
 
-#[derive(Clone, Copy)]
+// None of the rules refuses the parameters.
+#[derive(Clone, Copy, PartialEq, Eq)]
 pub struct Flow {
     parameters: FlowParameters,
-    ghost times: { (1 ≤ parameters.latency) × (parameters.latency ≤ parameters.deadline) × (parameters.deadline ≤ parameters.period) × (parameters.period ≤ 1000000) × (parameters.jitter < parameters.period) },
-    ghost placed: { (parameters.source.column < 6) × (parameters.source.row < 6) × (parameters.destination.column < 6) × (parameters.destination.row < 6) },
-    ghost apart: { (parameters.source.column ≡ parameters.destination.column → parameters.source.row ≢ parameters.destination.row) },
-    ghost labelled: { 1 ≤ parameters.label },
+    ghost sound: { flow_fault parameters ≡ 0 },
 }
 
 impl Flow {
@@ -32,14 +31,7 @@ impl Flow {
         {
             return Err(Refusal::Times);
         }
-        if p.source.column >= MESH_SIDE
-            || p.source.row >= MESH_SIDE
-            || p.destination.column >= MESH_SIDE
-            || p.destination.row >= MESH_SIDE
-        {
-            return Err(Refusal::Endpoints);
-        }
-        if p.source.column == p.destination.column && p.source.row == p.destination.row {
+        if !p.source.is_on_mesh() || !p.destination.is_on_mesh() || p.source == p.destination {
             return Err(Refusal::Endpoints);
         }
         if p.label == 0 {
@@ -53,5 +45,23 @@ impl Flow {
         ensures { result ≡ self.now.parameters }
     {
         self.parameters
+    }
+
+    // The router that its packets come from.
+    pub(crate) fn source(&self) -> MeshRouter
+        ensures { result.router ≡ self.now.parameters.source }
+    {
+        MeshRouter {
+            router: self.parameters.source,
+        }
+    }
+
+    // The router that its packets go to.
+    pub(crate) fn destination(&self) -> MeshRouter
+        ensures { result.router ≡ self.now.parameters.destination }
+    {
+        MeshRouter {
+            router: self.parameters.destination,
+        }
     }
 }

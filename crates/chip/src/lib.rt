@@ -2,6 +2,8 @@
 #![tactic(auto)]
 
 pub mod flow;
+pub mod limits;
+mod mesh_router;
 pub mod parameters;
 pub mod port;
 pub mod refusal;
@@ -9,6 +11,7 @@ pub mod route;
 pub mod ticks;
 
 pub use flow::Flow;
+pub use limits::{MAX_FLOWS, MAX_PAIRS};
 pub use parameters::{FlowParameters, Router};
 pub use port::Port;
 pub use refusal::Refusal;

@@ -1,51 +1,48 @@
 // The causes for which a call of the library is refused, each with its number.
-ghost use Rattle.std.specs.Prelude.{◌≡◌, Decides, nat_eq};
-ghost use Rattle.std.specs.Ordering.{on};
+ghost use Rattle.std.specs.Prelude.{◌≡◌};
 ghost use Rattle.chip.specs.Refusals.{number_of};
-ghost use Rattle.std.specs.Cmp.Rules.{comparing};
-ghost use Rattle.std.proofs.Common.{rules};
 
 // Why a call was refused.
-#[derive(Clone, Copy, Debug)]
+#[derive(Clone, Copy, PartialEq, Eq, Debug)]
 pub enum Refusal {
     // The input ends in a field or before the end field.
-    Truncated,
+    Truncated = 1,
     // The tag is unknown or out of order.
-    Tag,
+    Tag = 2,
     // The length is wrong for the tag.
-    Length,
+    Length = 3,
     // The rule letter is none that the library knows.
-    RuleLetter,
+    RuleLetter = 4,
     // The flow's times break their rule.
-    Times,
+    Times = 5,
     // An endpoint lies off the mesh, or both are one router.
-    Endpoints,
+    Endpoints = 6,
     // The label is 0.
-    LabelZero,
+    LabelZero = 7,
     // The label is already on the sheet.
-    LabelTaken,
+    LabelTaken = 8,
     // A sheet holds at most 20 flows.
-    TooManyFlows,
+    TooManyFlows = 9,
     // The reserve is above 1,000,000 ticks.
-    ReserveTooLarge,
+    ReserveTooLarge = 10,
     // A pair names no flow of the sheet, or one flow twice.
-    PairUnknown,
+    PairUnknown = 11,
     // A job holds at most 16 pairs.
-    TooManyPairs,
+    TooManyPairs = 12,
     // Bytes follow the end field.
-    TrailingBytes,
+    TrailingBytes = 13,
     // The buffer is shorter than the output.
-    ShortBuffer,
+    ShortBuffer = 14,
     // An advance of no placings.
-    AdvanceOfZero,
+    AdvanceOfZero = 15,
     // An advance of a search that has ended.
-    AdvanceAfterEnd,
+    AdvanceAfterEnd = 16,
     // A plan or equality asked before the end, or a level asked without an order.
-    NoOutcome,
+    NoOutcome = 17,
     // A level outside 1 to the number of flows.
-    LevelOutside,
+    LevelOutside = 18,
     // A question that names a flow outside 1 to the number of flows, one twice, or the asked flow among the others.
-    ImproperQuestion,
+    ImproperQuestion = 19,
 }
 
 impl Refusal {
@@ -53,39 +50,6 @@ impl Refusal {
     pub fn number(self) -> u8
         ensures { result ≡ number_of self }
     {
-        match self {
-            Refusal::Truncated => 1,
-            Refusal::Tag => 2,
-            Refusal::Length => 3,
-            Refusal::RuleLetter => 4,
-            Refusal::Times => 5,
-            Refusal::Endpoints => 6,
-            Refusal::LabelZero => 7,
-            Refusal::LabelTaken => 8,
-            Refusal::TooManyFlows => 9,
-            Refusal::ReserveTooLarge => 10,
-            Refusal::PairUnknown => 11,
-            Refusal::TooManyPairs => 12,
-            Refusal::TrailingBytes => 13,
-            Refusal::ShortBuffer => 14,
-            Refusal::AdvanceOfZero => 15,
-            Refusal::AdvanceAfterEnd => 16,
-            Refusal::NoOutcome => 17,
-            Refusal::LevelOutside => 18,
-            Refusal::ImproperQuestion => 19,
-        }
-    }
-}
-
-impl PartialEq for Refusal {
-    ghost eq = { on number_of nat_eq };
-
-    ghost laws = { Prim.search (comparing, rules) };
-
-    fn eq(&self, other: &Refusal) -> bool
-        ensures computes { result ≡ on number_of nat_eq self.now other.now }
-        ensures decides { Decides result (number_of self.now ≡ number_of other.now) }
-    {
-        self.number() == other.number()
+        self as u8
     }
 }

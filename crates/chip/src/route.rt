@@ -1,6 +1,7 @@
 // The route of a flow as a table of marks, one for each link of the mesh, and sharing by comparing two tables.
-ghost use Rattle.std.specs.Prelude.{◌≡◌, ◌+◌};
+ghost use Rattle.std.specs.Prelude.{◌≡◌, ◌+◌, ◌&&◌};
 ghost use Rattle.chip.specs.Routes.{no_marks, route_marks, links, among, shares, distance, count, Sharing};
+ghost use Rattle.std.specs.List.{list_any, zip};
 
 use crate::flow::Flow;
 use crate::port::Port;
@@ -12,15 +13,22 @@ pub const LINKS: usize = 216;
 #[derive(Clone, Copy)]
 pub struct Route {
     flow: Flow,
-    marks: [bool; 216],
+    marks: [bool; LINKS],
     ghost marked: { marks ≡ route_marks flow.parameters },
 }
 
 // The table without a mark.
-fn no_marks() -> [bool; 216]
+fn no_marks() -> [bool; LINKS]
     ensures { result ≡ no_marks }
 {
-    [false; 216]
+    [false; LINKS]
+}
+
+// Whether some place is marked in both tables.
+fn marked_in_both(one: &[bool], other: &[bool]) -> bool
+    ensures { result ≡ list_any (λ m. m.0 && m.1) (zip one.now other.now) }
+{
+    one.iter().zip(other).any(|(a, b)| *a && *b)
 }
 
 impl Route {
@@ -29,14 +37,13 @@ impl Route {
     pub fn of(flow: Flow) -> Route
         ensures { result.flow ≡ flow }
     {
-        let there = flow.parameters().destination;
-        let mut here = flow.parameters().source;
+        let there = flow.destination();
+        let mut here = flow.source();
         let mut marks = no_marks();
         marks[here.link(Port::In)] = true;
-        for step in 0..here.distance(there) {
-            let port = here.onward(there);
-            marks[here.link(port)] = true;
-            here = here.beyond(port);
+        for _ in 0..here.distance(there) {
+            marks[here.link(here.onward(there))] = true;
+            here = here.toward(there);
         }
         marks[there.link(Port::Out)] = true;
         Route { flow, marks }
@@ -61,13 +68,7 @@ impl Route {
         ensures counted { result ≡ count (route_marks self.now.flow.parameters) }
         ensures steps { result ≡ 2 + distance self.now.flow.parameters.source self.now.flow.parameters.destination }
     {
-        let mut links = 0;
-        for mark in self.marks.iter() {
-            if *mark {
-                links += 1;
-            }
-        }
-        links
+        self.marks.iter().filter(|mark| **mark).count()
     }
 
     // Whether the two flows share: some link is in both routes.
@@ -75,11 +76,6 @@ impl Route {
         ensures value { result ≡ shares self.now.flow.parameters other.now.flow.parameters }
         ensures laws { Sharing }
     {
-        for link in 0..LINKS {
-            if self.marks[link] && other.marks[link] {
-                return true;
-            }
-        }
-        false
+        marked_in_both(&self.marks, &other.marks)
     }
 }

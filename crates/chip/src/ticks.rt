@@ -9,7 +9,7 @@ use crate::refusal::Refusal;
 pub const MAX_RESERVE: u32 = 1_000_000;
 
 // From 0 to 1,000,000 ticks.
-#[derive(Clone, Copy)]
+#[derive(Clone, Copy, PartialEq, Eq)]
 pub struct Ticks {
     count: u32,
     ghost few: { count ≤ 1000000 },

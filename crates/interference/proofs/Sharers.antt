@@ -1,27 +1,21 @@
 -- The sets of flows that share with a flow, as they are worked out from the routes, and as a rule reads them. Assumes nothing.
-use Rattle.std.proofs.Common.{◌≡◌, ℕ, zero, suc, ◌+◌, ◌-◌, ◌<◌, ◌≤◌, Bool, true, false, cond, ◌&&◌, eqb, leb, ◌⊎◌, List, [], map, length, get_or, sym, refl, ap, ◌∙◌, ap₂, inl, inr, add-one, arith}
+use Rattle.std.proofs.Common.{◌≡◌, ℕ, zero, suc, ◌+◌, ◌-◌, ◌<◌, ◌≤◌, Bool, true, false, cond, ◌&&◌, eqb, ◌⊎◌, List, [], length, get_or, sym, refl, ap, ◌∙◌, ap₂, inl, inr, add-one, arith}
 use lib.ListN as ListN
-use Rattle.std.proofs.lemmas.List.{get_or-map, length-set, length-map, map-set, take-map, get_or-take, get_or-set_same, get_or-set_other}
-use Rattle.std.proofs.lemmas.Bool.{cases_eq, eq-eqb, ne_eqb, and_from, and_left, and_right, and_parts, leb-true}
+use Rattle.std.proofs.lemmas.List.{get_or-map, length-set, get_or-set_same, get_or-set_other}
+use Rattle.std.proofs.lemmas.Bool.{cases_eq, eq-eqb, ne_eqb, and_from, and_left, and_right}
 use Rattle.std.proofs.lemmas.Bool.Decides.{nat_tests}
 use Rattle.chip.specs.declared.parameters.FlowParameters.{FlowParameters}
-use Rattle.chip.specs.declared.flow.Flow.{Flow}
 use Rattle.chip.specs.declared.route.Route.{Route}
-use Rattle.chip.specs.Routes.{shares}
 use Rattle.rule.specs.Lists.{is_flow, marks, has}
-use Rattle.rule.specs.FlowSets.{marks_of, put, firsts}
-use Rattle.rule.specs.declared.flow_set.FlowSet.{FlowSet}
+use Rattle.rule.specs.FlowSets.{put, firsts}
 use Rattle.rule.proofs.Marks.{marks_from_none}
 use Rattle.rule.proofs.Members.{marks_length}
 use Rattle.interference.specs.Interference.{no_flow, flow, share}
-use Rattle.interference.specs.Tables.{chip_of, row, sharers, routed}
+use Rattle.interference.specs.Tables.{sharers, routed}
 
--- the flows of a table of routes share as the routes do
-pub share_routes : (routes : List Route) (g f : ℕ) (x y : Route) → g < length routes → f < length routes → share (routed routes) (g + 1) (f + 1) ≡ shares (get_or routes g x).flow.parameters (get_or routes f y).flow.parameters
-share_routes routes g f x y h k = ap₂ shares (at g x h) (at f y k)
-  where
-    at : (i : ℕ) (z : Route) → i < length routes → flow (routed routes) (i + 1) ≡ (get_or routes i z).flow.parameters
-    at i z l = let e : i + 1 - 1 ≡ i = omega arith in ap (λ n. get_or (routed routes) n no_flow) e ∙ get_or-map (λ r. r.flow.parameters) routes i z no_flow l
+-- the flow of a route by its place in a table of routes
+pub routed_at : (routes : List Route) (i : ℕ) (x : Route) → i < length routes → flow (routed routes) (i + 1) ≡ (get_or routes i x).flow.parameters
+routed_at routes i x inside = let e : i + 1 - 1 ≡ i = omega arith in ap (λ n. get_or (routed routes) n no_flow) e ∙ get_or-map (λ r. r.flow.parameters) routes i x no_flow inside
 
 -- one flow more
 pub sharers_more : (fs : List FlowParameters) (f k : ℕ) (b : Bool) → share fs (k + 1) f ≡ b → sharers fs f (k + 1) ≡ cond b (put (sharers fs f k) (k + 1) true) (sharers fs f k)
@@ -89,38 +83,3 @@ has_sharers fs f (suc k) g few = go (share fs (suc k) f) refl (cases_eq g (suc k
         before ∙ and_left (is_flow k g) (share fs g f) (stale here)
         ∙ sym (and_right (is_flow (suc k) g) (share fs g f) (ap (λ n. share fs n f) here ∙ e))
     go false e (inr n) before = before ∙ ap (λ b. b && share fs g f) (old n)
-
--- the first flows of a table share as those of the whole table
-pub share_first : (n : ℕ) (flows : List Flow) (g f : ℕ) → is_flow n g ≡ true → is_flow n f ≡ true → share (chip_of n flows) g f ≡ share (map (λ x. x.parameters) flows) g f
-share_first n flows g f h k = ap₂ shares (at g h) (at f k)
-  where
-    at : (j : ℕ) → is_flow n j ≡ true → flow (chip_of n flows) j ≡ flow (map (λ x. x.parameters) flows) j
-    at j l =
-        let parts = and_parts (leb 1 j) (leb j n) l in
-        ap (λ (fs : List FlowParameters). get_or fs (j - 1) no_flow) (sym (take-map (λ x. x.parameters) n flows))
-        ∙ get_or-take n (map (λ x. x.parameters) flows) (j - 1) no_flow (omega (arith, leb-true 1 j parts.0, leb-true j n parts.1))
-
--- a table of the sharers of each flow says who shares with whom
-pub near_shared : (n : ℕ) (flows : List Flow) (near : List FlowSet) → n ≤ 20 → ((f : ℕ) → is_flow n f ≡ true → row near f ≡ sharers (map (λ x. x.parameters) flows) f n) → (f g : ℕ) → is_flow n f ≡ true → has (row near f) g ≡ (is_flow n g && share (chip_of n flows) g f)
-near_shared n flows near few table f g asked =
-    ap (λ set. has set g) (table f asked) ∙ has_sharers (map (λ x. x.parameters) flows) f n g few ∙ go (is_flow n g) refl
-  where
-    go : (b : Bool) → is_flow n g ≡ b → (b && share (map (λ x. x.parameters) flows) g f) ≡ (b && share (chip_of n flows) g f)
-    go true e = sym (share_first n flows g f e asked)
-    go false e = refl
-
--- one row more
-pub near_more : (fs : List FlowParameters) (n i : ℕ) (near : List FlowSet) (set : FlowSet) → i < length near → ((f : ℕ) → is_flow i f ≡ true → row near f ≡ sharers fs f n) → marks_of set ≡ sharers fs (i + 1) n → (f : ℕ) → is_flow (i + 1) f ≡ true → row (ListN.set near i set) f ≡ sharers fs f n
-near_more fs n i near set room table here f asked = ap (λ (rows : List (List Bool)). get_or rows (f - 1) []) (map-set marks_of near i set) ∙ go (cases_eq f (i + 1))
-  where
-    range : (1 ≤ f) × (f ≤ i + 1)
-    range = let parts = and_parts (leb 1 f) (leb f (i + 1)) asked in (leb-true 1 f parts.0, leb-true f (i + 1) parts.1)
-
-    earlier : (f ≡ i + 1 → ⊥) → is_flow i f ≡ true
-    earlier n = let r = range in grind (arith, nat_tests)
-
-    go : (f ≡ i + 1) ⊎ (f ≡ i + 1 → ⊥) → get_or (ListN.set (map marks_of near) i (marks_of set)) (f - 1) [] ≡ sharers fs f n
-    go (inl e) =
-        let j : f - 1 ≡ i = omega arith in
-        ap (λ k. get_or (ListN.set (map marks_of near) i (marks_of set)) k []) j ∙ get_or-set_same (map marks_of near) i (marks_of set) [] (simp length-map room) ∙ here ∙ ap (λ k. sharers fs k n) (sym e)
-    go (inr n) = get_or-set_other (map marks_of near) i (f - 1) (marks_of set) [] (λ e. n (omega (arith, range))) ∙ table f (earlier n)

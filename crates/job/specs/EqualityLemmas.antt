@@ -6,11 +6,11 @@ use Rattle.std.specs.Cmp.Lexicographic.{pointwise_decides}
 use Rattle.std.specs.Option.{option_eq}
 use Rattle.std.proofs.Common.{sym, ap, ◌∙◌, rules}
 use Rattle.std.proofs.lemmas.Bool.Decides.{Decides-and}
-use Rattle.chip.proofs.Equal.{flow_decides}
+use Rattle.chip.proofs.Equal.{flow_eq_decides}
 use Rattle.sheet.specs.declared.letter.Letter.{Letter}
 use Rattle.sheet.specs.declared.letter.Letter.TheVariants.{D, J, L}
 use Rattle.sheet.specs.Letters.{letter_code}
-use Rattle.sheet.proofs.PairsEqual.{pair_decides}
+use Rattle.sheet.proofs.Equal.{pair_eq_decides}
 use Rattle.job.specs.Equality.{contents_eq, job_eq}
 use Rattle.job.specs.Jobs.{Contents, contents}
 
@@ -34,8 +34,8 @@ reserves_decide (Some x) (Some y) = search rules
 pub contents_decides : (a b : Contents) → Decides (contents_eq a b) (a ≡ b)
 contents_decides a b =
     let all =
-    Decides-and _ _ (Decides-and _ _ (Decides-and _ _ (letters_decide a.letter b.letter) (reserves_decide a.reserve b.reserve)) (pointwise_decides flow_decides a.flows b.flows))
-    (pointwise_decides pair_decides a.pairs b.pairs) in
+    Decides-and _ _ (Decides-and _ _ (Decides-and _ _ (letters_decide a.letter b.letter) (reserves_decide a.reserve b.reserve)) (pointwise_decides flow_eq_decides a.flows b.flows))
+    (pointwise_decides pair_eq_decides a.pairs b.pairs) in
     (λ e. search (rules, all), λ e. all.1 (((ap (λ c. c.letter) e, ap (λ c. c.reserve) e), ap (λ c. c.flows) e), ap (λ c. c.pairs) e))
 
 pub job_laws : IsPartialEquivalence job_eq

@@ -1,11 +1,11 @@
 -- What a job asks for: a rule by its letter, the flows, a reserve and pairs. Assumes nothing.
-use Rattle.std.specs.Prelude.{ℕ, List, Some, None, Option}
+use Rattle.std.specs.Prelude.{ℕ, List, Option}
+use Rattle.std.specs.Option.{option_map}
 use Rattle.chip.specs.declared.parameters.FlowParameters.{FlowParameters}
 use Rattle.chip.specs.declared.ticks.Ticks.{Ticks}
 use Rattle.job.specs.declared.job.Job.{Job}
 use Rattle.sheet.specs.declared.letter.Letter.{Letter}
 use Rattle.sheet.specs.declared.pair.Pair.{Pair}
-use Rattle.job.specs.PairLists.{paired}
 use Rattle.sheet.specs.Pairs.{after_pairing}
 use Rattle.sheet.specs.Sheets.{flows_of}
 
@@ -18,12 +18,11 @@ pub record Contents : Type 0 where
 
 -- how many ticks a reserve has, if there is one
 abbrev pub ticks_of : Option Ticks → Option ℕ
-ticks_of None = None
-ticks_of (Some t) = Some t.count
+ticks_of = option_map (λ t. t.count)
 
 -- what a job holds
 abbrev pub contents : Job → Contents
-contents j = record { letter = j.letter; flows = flows_of j.sheet; reserve = ticks_of j.reserve; pairs = paired j.pairs }
+contents j = record { letter = j.letter; flows = flows_of j.sheet; reserve = ticks_of j.reserve; pairs = j.pairs.items }
 
 -- the contents with another reserve
 abbrev pub with_reserve : Option ℕ → Contents → Contents

@@ -1,4 +1,3 @@
-pub mod PairLists
 pub mod Jobs
 pub mod Equality
 pub mod EqualityLemmas

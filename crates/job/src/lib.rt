@@ -2,6 +2,5 @@
 #![tactic(auto)]
 
 pub mod job;
-mod pair_list;
 
 pub use job::Job;

@@ -3,16 +3,17 @@
 --   below_start    at one packet of each interferer
 --   below_more     at the next step
 --   climbed        at a solution, and past the limit
-use Rattle.std.proofs.Common.{◌≡◌, ℕ, ◌+◌, ◌-◌, ◌<◌, ◌≤◌, true, eqb, ◌⊎◌, List, [], ◌∷◌, length, get_or, Some, None, Option, sym, refl, ap, inl, inr, mul-le-mul_right, le-div_iff_mul-le, arith}
+use Rattle.std.proofs.Common.{◌≡◌, ℕ, ◌+◌, ◌-◌, ◌<◌, ◌≤◌, true, eqb, ◌⊎◌, List, [], ◌∷◌, length, get_or, Some, None, Option, sym, refl, inl, inr, mul-le-mul_right, le-div_iff_mul-le, arith}
 use Rattle.std.proofs.lemmas.Bool.{cases_lt, or_left, or_right, eq-eqb}
 use Rattle.chip.specs.declared.parameters.FlowParameters.{FlowParameters}
 use Rattle.chip.specs.declared.flow.Flow.{Flow}
 use Rattle.rule.specs.Lists.{is_flow, among}
 use Rattle.latency.specs.declared.traffic.Traffic.{Traffic}
-use Rattle.latency.specs.Chips.{chip}
+use Rattle.latency.specs.Chips.{chip, Timely}
 use Rattle.interference.specs.Solution.{Interferer, up, load, demand, least, Least}
 use Rattle.interference.specs.Interference.{flow, interferers}
 use Rattle.interference.specs.Tables.{total}
+use Rattle.chip.proofs.Sound.{flow_times}
 use Rattle.latency.specs.ChipsLemmas.{chip_flow}
 use Rattle.interference.proofs.Fixed.{least_is, only}
 use Rattle.interference.proofs.Loads.{load_grows}
@@ -29,23 +30,15 @@ packets_least fs extra r (j ∷ js) some sound =
     let once = up_some (r + ((flow fs j).jitter + extra j)) (flow fs j).period (omega arith) (sound j (or_left (eqb j j) (among j js) (eq-eqb j j refl))) in
     omega (arith, mul-le-mul_right (flow fs j).latency once, packets_least fs extra r js some (λ k h. sound k (or_right (eqb k j) (among k js) h)))
 
-some_flow : (flows : List Flow) → 0 < length flows → Flow
-some_flow [] h = absurd (omega arith)
-some_flow (x ∷ flows) h = x
+first_of : (flows : List Flow) → 0 < length flows → Flow
+first_of [] h = absurd (omega arith)
+first_of (x ∷ flows) h = x
 
--- a flow of a chip has a period
-period_some : (t : Traffic) (j : ℕ) → is_flow (length (chip t)) j ≡ true → 1 ≤ (flow (chip t) j).period
-period_some t j asked =
-    let x : Flow = some_flow t.flows (omega arith) in
-    let own : Flow = get_or t.flows (j - 1) x in
-    omega (arith, ap (λ p. p.period) (chip_flow t j x asked), own.times)
-
--- a flow of a chip has its deadline within the longest period
-pub deadline_few : (t : Traffic) (f : ℕ) → is_flow (length (chip t)) f ≡ true → (flow (chip t) f).deadline ≤ 1000000
-deadline_few t f asked =
-    let x : Flow = some_flow t.flows (omega arith) in
-    let own : Flow = get_or t.flows (f - 1) x in
-    omega (arith, ap (λ p. p.deadline) (chip_flow t f x asked), own.times)
+-- a flow of a chip has sound times
+pub chip_times : (t : Traffic) (f : ℕ) → is_flow (length (chip t)) f ≡ true → Timely (flow (chip t) f)
+chip_times t f asked =
+    let x : Flow = first_of t.flows (omega arith) in
+    rw (chip_flow t f x asked) (flow_times (get_or t.flows (f - 1) x))
 
 -- nothing below r solves r = g r, and g asks for at least r
 abbrev pub Below : (ℕ → ℕ) → ℕ → Type 0
@@ -54,7 +47,7 @@ Below g r = (r ≤ g r) × ((s : ℕ) → s < r → s ≡ g s → ⊥)
 -- a climb starts at one packet of each flow that interferes
 pub below_start : (t : Traffic) (base : ℕ) (extra : ℕ → ℕ) (js : List ℕ) → 1 ≤ base → Flows (length (chip t)) js → Below (demand base (interferers (chip t) extra js)) (base + total (λ j. (flow (chip t) j).latency) js)
 below_start t base extra js some flows =
-    let least_load : (r : ℕ) → 1 ≤ r → total (λ j. (flow (chip t) j).latency) js ≤ load (interferers (chip t) extra js) r = λ r h. packets_least (chip t) extra r js h (λ j asked. period_some t j (flows j asked)) in (
+    let least_load : (r : ℕ) → 1 ≤ r → total (λ j. (flow (chip t) j).latency) js ≤ load (interferers (chip t) extra js) r = λ r h. packets_least (chip t) extra r js h (λ j asked. omega (arith, chip_times t j (flows j asked))) in (
       omega (arith, least_load (base + total (λ j. (flow (chip t) j).latency) js) (omega arith)),
       λ s below solves. omega (arith, least_load s (omega arith)),
     )

@@ -2,3 +2,5 @@ mod Climb
 mod Delayed
 mod Settles
 mod Promised
+mod Sums
+mod Mapped

@@ -14,6 +14,7 @@ use Rattle.rule.proofs.Distinct.{distinct_parts, distinct_times, times_distinct,
 use Rattle.rule.proofs.Members.{times_append, marks_times, marks_push, has_marks}
 use Rattle.rule.proofs.Told.{table_more, leading_at, leading_stops, leading_most}
 use Rattle.latency.specs.declared.settled.Settled.{Settled}
+use Rattle.latency.specs.Settlements.{overs_in, bounds_in}
 use Rattle.interference.specs.Rules.{solution_J, all_settled, bound_J, meaning_J}
 use Rattle.latency.specs.Settling.{Holds, Settling, Ready}
 use Rattle.interference.specs.Tables.{total, row, of_flow}
@@ -54,34 +55,34 @@ module _ (fs : List FlowParameters) where
   holds_settled s (j ∷ above) holds = and_from (is_some (solution_J fs j above)) (all_settled fs above) (ap is_some holds.1) (holds_settled s above holds.2)
 
   -- the sets of the table are within the flows
-  holds_within : (s : Settled) (n : ℕ) (above : List ℕ) → Holds fs s above → distinct n above ≡ true → (j : ℕ) → among j above ≡ true → within n (row s.over j) ≡ true
+  holds_within : (s : Settled) (n : ℕ) (above : List ℕ) → Holds fs s above → distinct n above ≡ true → (j : ℕ) → among j above ≡ true → within n (row (overs_in s.table) j) ≡ true
   holds_within s n [] holds once j asked = let z : ◌≡◌ {A = ℕ} 0 1 = cc in absurd (omega arith)
   holds_within s n (g ∷ above) holds once j asked =
       let parts = distinct_parts n g above once in
       elim (or_cases (eqb j g) (among j above) asked) [
-        | inl here ↦ ap (λ i. within n (row s.over i)) (eqb-true j g here) ∙ ap (within n) holds.0 ∙ marks_within n above parts.2
+        | inl here ↦ ap (λ i. within n (row (overs_in s.table) i)) (eqb-true j g here) ∙ ap (within n) holds.0 ∙ marks_within n above parts.2
         | inr later ↦ holds_within s n above holds.2 parts.2 j later
       ]
 
   -- a flow written beside the table leaves what it has for others
-  module _ (s next : Settled) (f r : ℕ) (over : next.over ≡ ListN.set s.over (f - 1) s.above) (bounds : next.bounds ≡ ListN.set s.bounds (f - 1) r) where
-    row_other : (j : ℕ) → 1 ≤ j → 1 ≤ f → (j ≡ f → ⊥) → row next.over j ≡ row s.over j
+  module _ (s next : Settled) (f r : ℕ) (over : overs_in next.table ≡ ListN.set (overs_in s.table) (f - 1) s.above) (bounds : bounds_in next.table ≡ ListN.set (bounds_in s.table) (f - 1) r) where
+    row_other : (j : ℕ) → 1 ≤ j → 1 ≤ f → (j ≡ f → ⊥) → row (overs_in next.table) j ≡ row (overs_in s.table) j
     row_other j some also n =
         ap (λ (sets : List FlowSet). row sets j) over
-        ∙ ap (λ (rows : List (List Bool)). get_or rows (j - 1) []) (map-set marks_of s.over (f - 1) s.above)
-        ∙ get_or-set_other (map marks_of s.over) (f - 1) (j - 1) (marks_of s.above) [] (λ e. n (omega arith))
+        ∙ ap (λ (rows : List (List Bool)). get_or rows (j - 1) []) (map-set marks_of (overs_in s.table) (f - 1) s.above)
+        ∙ get_or-set_other (map marks_of (overs_in s.table)) (f - 1) (j - 1) (marks_of s.above) [] (λ e. n (omega arith))
 
-    row_own : 1 ≤ f → f ≤ 20 → row next.over f ≡ marks_of s.above
+    row_own : 1 ≤ f → f ≤ 20 → row (overs_in next.table) f ≡ marks_of s.above
     row_own some few =
         ap (λ (sets : List FlowSet). row sets f) over
-        ∙ ap (λ (rows : List (List Bool)). get_or rows (f - 1) []) (map-set marks_of s.over (f - 1) s.above)
-        ∙ get_or-set_same (map marks_of s.over) (f - 1) (marks_of s.above) [] (simp length-map (omega (arith, s.sized)))
+        ∙ ap (λ (rows : List (List Bool)). get_or rows (f - 1) []) (map-set marks_of (overs_in s.table) (f - 1) s.above)
+        ∙ get_or-set_same (map marks_of (overs_in s.table)) (f - 1) (marks_of s.above) [] (simp length-map (omega (arith, s.sized)))
 
-    bound_other : (j : ℕ) → 1 ≤ j → 1 ≤ f → (j ≡ f → ⊥) → of_flow next.bounds j ≡ of_flow s.bounds j
-    bound_other j some also n = ap (λ (xs : List ℕ). of_flow xs j) bounds ∙ get_or-set_other s.bounds (f - 1) (j - 1) r 0 (λ e. n (omega arith))
+    bound_other : (j : ℕ) → 1 ≤ j → 1 ≤ f → (j ≡ f → ⊥) → of_flow (bounds_in next.table) j ≡ of_flow (bounds_in s.table) j
+    bound_other j some also n = ap (λ (xs : List ℕ). of_flow xs j) bounds ∙ get_or-set_other (bounds_in s.table) (f - 1) (j - 1) r 0 (λ e. n (omega arith))
 
-    bound_own : 1 ≤ f → f ≤ 20 → of_flow next.bounds f ≡ r
-    bound_own some few = ap (λ (xs : List ℕ). of_flow xs f) bounds ∙ get_or-set_same s.bounds (f - 1) r 0 (omega (arith, s.sized))
+    bound_own : 1 ≤ f → f ≤ 20 → of_flow (bounds_in next.table) f ≡ r
+    bound_own some few = ap (λ (xs : List ℕ). of_flow xs f) bounds ∙ get_or-set_same (bounds_in s.table) (f - 1) r 0 (simp length-map (omega (arith, s.sized)))
 
     holds_other : (above : List ℕ) → 1 ≤ f → ((j : ℕ) → among j above ≡ true → (1 ≤ j) × (j ≡ f → ⊥)) → Holds fs s above → Holds fs next above
     holds_other [] some others holds = tt
@@ -128,7 +129,7 @@ module _ (fs : List FlowParameters) (list : List ℕ) (few : length fs ≤ 20) (
   ]
 
   -- a flow with a solution is settled next
-  module _ (inside : k < length list) (r : ℕ) (some : Some r ≡ solution_J fs (get_or list k 0) (reverse (take k list))) (next : Settled) (above : marks_of next.above ≡ put (marks_of s.above) (get_or list k 0) true) (over : next.over ≡ ListN.set s.over (get_or list k 0 - 1) s.above) (bounds : next.bounds ≡ ListN.set s.bounds (get_or list k 0 - 1) r) (told : next.told ≡ one_more s.told r) where
+  module _ (inside : k < length list) (r : ℕ) (some : Some r ≡ solution_J fs (get_or list k 0) (reverse (take k list))) (next : Settled) (above : marks_of next.above ≡ put (marks_of s.above) (get_or list k 0) true) (over : overs_in next.table ≡ ListN.set (overs_in s.table) (get_or list k 0 - 1) s.above) (bounds : bounds_in next.table ≡ ListN.set (bounds_in s.table) (get_or list k 0 - 1) r) (told : next.told ≡ one_more s.told r) where
     bounded_more : k < length (leading (meaning_J fs) [] list)
     bounded_more = elim (cases_lt k (length (leading (meaning_J fs) [] list))) [
       | inl more ↦ more

@@ -6,8 +6,8 @@ use Rattle.chip.specs.declared.parameters.FlowParameters.{FlowParameters}
 use Rattle.chip.specs.declared.flow.Flow.{Flow}
 use Rattle.rule.specs.Lists.{is_flow, has}
 use Rattle.rule.specs.FlowSets.{marks_of}
-use Rattle.rule.specs.declared.flow_set.FlowSet.{FlowSet}
 use Rattle.rule.proofs.Distinct.{flow_range}
+use Rattle.rule.specs.declared.flow_set.FlowSet.{FlowSet}
 use Rattle.latency.specs.declared.traffic.Traffic.{Traffic}
 use Rattle.latency.specs.Chips.{chip}
 use Rattle.interference.specs.Interference.{no_flow, flow, share}

@@ -4,12 +4,16 @@
 // of a rule.
 #![tactic(auto)]
 
+mod analysis;
+mod chip_rule;
+mod jitters;
 mod rule_d;
 mod rule_j;
 mod rule_l;
 mod settled;
 mod settling;
 mod traffic;
+mod without_jitter;
 
 pub use rule_d::RuleD;
 pub use rule_j::RuleJ;

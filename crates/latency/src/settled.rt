@@ -1,15 +1,21 @@
 // What is settled of a list of flows, from its highest downward.
-ghost use Rattle.std.specs.Prelude.{◌≡◌, ℕ, ◌≤◌, length, slice_index};
+ghost use Rattle.std.specs.Prelude.{◌≡◌, ◌≤◌, length};
 
 use rule::{Bounds, FlowSet};
 
-// The flows settled so far, and for each by its number the flows above it and its bound; and the bounds by place.
+// What is settled of a flow: the flows above it, and its bound.
+#[derive(Clone, Copy)]
+pub struct Settlement {
+    pub(crate) over: FlowSet,
+    pub(crate) bound: u32,
+    ghost few: { bound ≤ 1000000 },
+}
+
+// The flows settled so far, what is settled of each by its number, and the bounds by place.
 #[derive(Clone, Copy)]
 pub struct Settled {
     pub(crate) above: FlowSet,
-    pub(crate) over: [FlowSet; 20],
-    pub(crate) bounds: [u32; 20],
+    pub(crate) table: [Settlement; 20],
     pub(crate) told: Bounds,
-    ghost sized: { (length over ≡ 20) × (length bounds ≡ 20) },
-    ghost small: { ((j : ℕ) → slice_index bounds j ≤ 1000000) },
+    ghost sized: { length table ≡ 20 },
 }

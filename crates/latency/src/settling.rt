@@ -1,16 +1,18 @@
 // How rule J settles a list: each flow under those above it, with the jitter that their bounds give.
-ghost use Rattle.std.specs.Prelude.{◌≡◌, ℕ, ◌-◌, ◌≤◌, true, List, [], length, set, slice_set};
+ghost use Rattle.std.specs.Prelude.{◌≡◌, ℕ, ◌-◌, ◌≤◌, true, List, [], length, slice_set};
 ghost use Rattle.rule.specs.FlowSets.{marks_of, members, put};
-ghost use Rattle.rule.specs.Lists.{is_flow, within, among, distinct, proper, marks};
+ghost use Rattle.rule.specs.Lists.{is_flow, distinct, proper, marks};
 ghost use Rattle.rule.specs.Meaning.{InTime, leading};
 ghost use Rattle.rule.specs.Questions.{one_more, table};
-ghost use Rattle.latency.specs.Chips.{chip};
+ghost use Rattle.latency.specs.Chips.{chip, HasFlow, HasFlows};
 ghost use Rattle.interference.specs.Interference.{disturbed};
 ghost use Rattle.interference.specs.Rules.{solution_J, bound_J, meaning_J};
+ghost use Rattle.latency.specs.Settlements.{overs_in, bounds_in};
 ghost use Rattle.latency.specs.Settling.{Holds, Settling, jitter_by, Ready};
-ghost use Rattle.interference.specs.Tables.{row, of_flow};
+ghost use Rattle.interference.specs.Tables.{row};
 
-use crate::settled::Settled;
+use crate::jitters::jitters;
+use crate::settled::{Settled, Settlement};
 use crate::traffic::Traffic;
 use rule::{Bounds, FlowSet};
 
@@ -22,8 +24,10 @@ impl Settled {
     {
         Settled {
             above: FlowSet::none(),
-            over: [FlowSet::none(); 20],
-            bounds: [0; 20],
+            table: [Settlement {
+                over: FlowSet::none(),
+                bound: 0,
+            }; 20],
             told: Bounds::none(),
         }
     }
@@ -32,14 +36,13 @@ impl Settled {
     fn place(&mut self, f: u8, r: u32)
         requires { (is_flow 20 f ≡ true) × (r ≤ 1000000) }
         ensures above { marks_of self.new.above ≡ put (marks_of self.old.above) f true }
-        ensures over { self.new.over ≡ slice_set self.old.over (f - 1) self.old.above }
-        ensures bounds { self.new.bounds ≡ slice_set self.old.bounds (f - 1) r }
+        ensures over { overs_in self.new.table ≡ slice_set (overs_in self.old.table) (f - 1) self.old.above }
+        ensures bounds { bounds_in self.new.table ≡ slice_set (bounds_in self.old.table) (f - 1) r }
         ensures told { self.new.told ≡ one_more self.old.told r }
     {
-        let above = self.above;
-        self.over[f as usize - 1] = above;
-        self.bounds[f as usize - 1] = r;
-        self.above = above.with(f);
+        let over = self.above;
+        self.table[f as usize - 1] = Settlement { over, bound: r };
+        self.above = over.with(f);
         self.told.push(r);
     }
 }
@@ -47,7 +50,7 @@ impl Settled {
 impl Traffic {
     // Whether some flow of `over` shares with flow j and not with flow f.
     pub(crate) fn disturbed(&self, f: u8, j: u8, over: FlowSet) -> bool
-        requires { (is_flow (length (chip self.now)) f ≡ true) × ((is_flow (length (chip self.now)) j ≡ true) × (within (length (chip self.now)) (marks_of over) ≡ true)) }
+        requires { HasFlow (chip self.now) f × (HasFlow (chip self.now) j × HasFlows (chip self.now) (marks_of over)) }
         ensures { result ≡ disturbed (chip self.now) f (members (marks_of over)) j }
     {
         !over.and(self.near(j)).less(self.near(f)).is_empty()
@@ -55,42 +58,33 @@ impl Traffic {
 
     // The interference jitter of flow j with respect to f, by what is settled.
     fn jitter(&self, settled: &Settled, f: u8, j: u8) -> u32
-        requires { (is_flow (length (chip self.now)) f ≡ true) × ((is_flow (length (chip self.now)) j ≡ true) × (within (length (chip self.now)) (row settled.now.over j) ≡ true)) }
+        requires { HasFlow (chip self.now) f × (HasFlow (chip self.now) j × HasFlows (chip self.now) (row (overs_in settled.now.table) j)) }
         ensures value { result ≡ jitter_by (chip self.now) settled.now f j }
         ensures few { result ≤ 1000000 }
     {
-        let over = settled.over[j as usize - 1];
-        if !self.disturbed(f, j, over) {
+        let own = settled.table[j as usize - 1];
+        if !self.disturbed(f, j, own.over) {
             return 0;
         }
-        settled.bounds[j as usize - 1].saturating_sub(self.flow(j).latency)
-    }
-
-    // The interference jitter of each flow of a set with respect to f, by what is settled.
-    fn jitters(&self, settled: &Settled, f: u8, counted: FlowSet) -> [u32; 20]
-        requires { (is_flow (length (chip self.now)) f ≡ true) × ((within (length (chip self.now)) (marks_of counted) ≡ true) × (((j : ℕ) → among j (members (marks_of counted)) ≡ true → within (length (chip self.now)) (row settled.now.over j) ≡ true))) }
-        ensures value { (j : ℕ) → among j (members (marks_of counted)) ≡ true → of_flow result j ≡ jitter_by (chip self.now) settled.now f j }
-        ensures few { (j : ℕ) → of_flow result j ≤ 1000000 }
-    {
-        let mut extra = [0; 20];
-        let mut left = counted;
-        while let Some(j) = left.pop() {
-            extra[j as usize - 1] = self.jitter(settled, f, j);
-        }
-        extra
+        own.bound.saturating_sub(self.flow(j).parameters().latency)
     }
 
     // The solution of flow f under the flows settled so far.
     fn under(&self, settled: &Settled, f: u8) -> Option<u32>
-        requires { (is_flow (length (chip self.now)) f ≡ true) × (Ready (length (chip self.now)) settled.now) }
+        requires { HasFlow (chip self.now) f × (Ready (length (chip self.now)) settled.now) }
         ensures value { (above : List ℕ) → proper (length (chip self.now)) f above ≡ true → marks_of settled.now.above ≡ marks above → Holds (chip self.now) settled.now above → result ≡ solution_J (chip self.now) f above }
         ensures few { InTime result 1000000 }
     {
         let counted = self.direct(f, settled.above);
-        self.least(f, counted, &self.jitters(settled, f, counted))
+        self.least(
+            f,
+            counted,
+            &jitters(counted, |j| self.jitter(settled, f, j)),
+        )
     }
 
     // Settles the flows of a list from place k on, highest first, up to the first that has no solution.
+    // By place, and not on the rest as a slice: what is settled is told of the whole list, which a rest has lost.
     fn settle(&self, list: &[u8], k: usize, settled: &mut Settled)
         requires { (distinct (length (chip self.now)) list.now ≡ true) × (Settling (chip self.now) list.now k settled.old) }
         ensures { Settling (chip self.now) list.now (length (leading (meaning_J (chip self.now)) [] list.now)) settled.new }

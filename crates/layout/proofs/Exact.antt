@@ -1,9 +1,7 @@
 -- Reading is exact: what the code reads is the layout of its job, each layout is read, and no input has two answers.
 -- Assumes nothing.
-use Rattle.std.proofs.Common.{◌≡◌, ℕ, ◌≤◌, List, [], length, drop, Ok, Err, Result, sym, refl, ap, ◌∙◌, subst, arith, MatchResult}
-use Rattle.std.proofs.lemmas.List.{drop_all}
+use Rattle.std.proofs.Common.{◌≡◌, ℕ, ◌≤◌, List, [], Ok, Err, Result, sym, refl, ap, ◌∙◌, subst, arith, MatchResult}
 use Rattle.chip.specs.declared.refusal.Refusal.{Refusal}
-use Rattle.chip.specs.declared.refusal.Refusal.TheVariants.{Truncated, Tag, Length, RuleLetter, Times, Endpoints, LabelZero, LabelTaken, TooManyFlows, ReserveTooLarge, PairUnknown, TooManyPairs, TrailingBytes, ShortBuffer, AdvanceOfZero, AdvanceAfterEnd, NoOutcome, LevelOutside, ImproperQuestion}
 use Rattle.chip.specs.Refusals.{number_of}
 use Rattle.job.specs.declared.job.Job.{Job}
 use Rattle.job.specs.Jobs.{Contents, contents}
@@ -20,25 +18,7 @@ use Rattle.layout.proofs.Written.{ends_laid_out}
 
 -- every refusal has a number
 pub numbered : (e : Refusal) → 1 ≤ number_of e
-numbered Truncated = omega arith
-numbered Tag = omega arith
-numbered Length = omega arith
-numbered RuleLetter = omega arith
-numbered Times = omega arith
-numbered Endpoints = omega arith
-numbered LabelZero = omega arith
-numbered LabelTaken = omega arith
-numbered TooManyFlows = omega arith
-numbered ReserveTooLarge = omega arith
-numbered PairUnknown = omega arith
-numbered TooManyPairs = omega arith
-numbered TrailingBytes = omega arith
-numbered ShortBuffer = omega arith
-numbered AdvanceOfZero = omega arith
-numbered AdvanceAfterEnd = omega arith
-numbered NoOutcome = omega arith
-numbered LevelOutside = omega arith
-numbered ImproperQuestion = omega arith
+numbered e = grind arith
 
 same_contents : (c d : Contents) → part_of Done c ≡ part_of Done d → c ≡ d
 same_contents c d e =
@@ -84,14 +64,11 @@ not_both : {X : Type 0} {c : Contents} {n b : ℕ} → accepted c ≡ refused n 
 not_both e = let z : ◌≡◌ {A = ℕ} 0 1 = cc in absurd (omega arith)
 
 -- all that is read is a job
-module _ (input : List ℕ) (j : Job) (ends : Ends (start input) input (contents j)) where
-  none_left : drop (length input) input ≡ []
-  none_left = drop_all (length input) input (omega arith)
-
+module _ (input : List ℕ) (j : Job) (ends : Ends (start input) (contents j)) where
   read_same : (k : Job) → input ≡ layout (contents k) → contents j ≡ contents k
   read_same k e =
       let r = read_job input k e in
-      let same = only_one ends r.1 (stuck_at_end none_left) (stuck_job (contents k) r.0) in
+      let same = only_one ends.1 r.1 (stuck_at_end refl) (stuck_job (contents k) r.0) in
       same_contents (contents j) (contents k) (ap (λ (s : State). s.part) same ∙ job_part (contents k) r.0)
 
   job_exact : ReadExactly input (accepted (contents j))
@@ -129,6 +106,6 @@ module _ (input : List ℕ) (f : Fault) (r : Refuses (start input) f) where
     );
   }
 
-pub exact : (input : List ℕ) (r : Result Job Fault) → MatchResult r (λ j. Ends (start input) input (contents j)) (λ f. Refuses (start input) f) → ReadExactly input (answer_of r)
+pub exact : (input : List ℕ) (r : Result Job Fault) → MatchResult r (λ j. Ends (start input) (contents j)) (λ f. Refuses (start input) f) → ReadExactly input (answer_of r)
 exact input (Ok j) h = job_exact input j h
 exact input (Err f) h = fault_exact input f h

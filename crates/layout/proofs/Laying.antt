@@ -1,61 +1,49 @@
 -- Fields laid out one after another. Assumes nothing.
-use Rattle.std.proofs.Common.{◌≡◌, ℕ, zero, suc, ◌+◌, ◌*◌, ◌<◌, ◌≤◌, List, [], ◌∷◌, ◌++◌, length, get_or, take, drop, set, Some, None, Option, sym, refl, ap, ◌∙◌, add-one, arith}
+use Rattle.std.proofs.Common.{◌≡◌, ℕ, zero, suc, ◌+◌, ◌*◌, ◌<◌, ◌≤◌, List, [], ◌∷◌, ◌++◌, length, get_or, take, Some, None, Option, sym, refl, ap, ◌∙◌, arith}
 use Rattle.std.specs.List.{flat_map, slice_get}
-use Rattle.chip.specs.declared.ticks.Ticks.{Ticks}
 use Rattle.job.specs.declared.job.Job.{Job}
-use Rattle.sheet.specs.Flows.{said}
-use Rattle.job.specs.Jobs.{contents, ticks_of}
-use Rattle.std.proofs.lemmas.List.{flat_map_more, take_all, length-take-le, drop_more, set_at, append_assoc, take_more, length-map}
-use Rattle.layout.specs.Cursor.{Put}
+use Rattle.job.specs.Jobs.{contents}
+use Rattle.layout.specs.Layout.{flow_bytes, pair_bytes, reserve_bytes}
+use Rattle.std.proofs.lemmas.List.Folds.{length-flat_map-take}
+use Rattle.std.proofs.lemmas.List.{length-append, flat_map_more, take_more}
 
--- the entry at a place is the next
-next_taken : {X : Type 0} (xs : List X) (i : ℕ) (x : X) → slice_get xs i ≡ Some x → take (suc i) xs ≡ take i xs ++ x ∷ []
-next_taken [] i x e = let z : ◌≡◌ {A = ℕ} 0 1 = cc in absurd (omega arith)
-next_taken (y ∷ xs) zero x e = let same : y ≡ x = cc in ap (λ z. z ∷ []) same
-next_taken (y ∷ xs) (suc i) x e = ap (λ zs. y ∷ zs) (next_taken xs i x e)
+-- one more entry behind those before it
+pub laid_more : {X : Type 0} (f : X → List ℕ) (xs : List X) (i : ℕ) (d : X) (start so_far after : List ℕ) → i < length xs →
+    so_far ≡ start ++ flat_map f (take i xs) → after ≡ so_far ++ f (get_or xs i d) → after ≡ start ++ flat_map f (take (i + 1) xs)
+laid_more f xs i d start so_far after h inv put =
+    put ∙ ap (λ bs. bs ++ f (get_or xs i d)) inv ∙ flat_map_more f start (take i xs) (get_or xs i d) ∙ ap (λ ys. start ++ flat_map f ys) (sym (take_more xs i d h))
 
--- one more entry, of k bytes, behind those before it
-pub laid_more : {X : Type 0} (f : X → List ℕ) (k : ℕ) (xs : List X) (i : ℕ) (x : X) (start so_far after : List ℕ) (s n m : ℕ) → slice_get xs i ≡ Some x → length (f x) ≡ k →
-    (so_far ≡ start ++ flat_map f (take i xs)) × (n ≡ s + k * i) → Put so_far n after m (f x) → (after ≡ start ++ flat_map f (take (i + 1) xs)) × (m ≡ s + k * (i + 1))
-laid_more f k xs i x start so_far after s n m e long inv put = (
-  put.laid ∙ ap (λ bs. bs ++ f x) inv.0 ∙ flat_map_more f start (take i xs) x ∙ ap (λ ys. start ++ flat_map f ys) (sym (next_taken xs i x e) ∙ ap (λ j. take j xs) (sym (add-one i))),
-  omega (arith, put.count, inv.1, long),
-)
+-- there is room for one more
+pub room_for : {X : Type 0} (f : X → List ℕ) (xs : List X) (i : ℕ) (d : X) (start so_far : List ℕ) (n : ℕ) → i < length xs →
+    so_far ≡ start ++ flat_map f (take i xs) → length start + length (flat_map f xs) ≤ n → length so_far + length (f (get_or xs i d)) ≤ n
+room_for f xs i d start so_far n h inv room = omega (arith, length-flat_map-take f xs i d h, ap length inv, length-append start (flat_map f (take i xs)))
 
--- each place below the length has its entry
+-- each place below the length has its entry; the planner cites it
 pub entry_at : {X : Type 0} (xs : List X) (i : ℕ) → i < length xs → (x : X) × (slice_get xs i ≡ Some x)
 entry_at [] i h = absurd (omega arith)
 entry_at (y ∷ xs) zero h = (y, refl)
 entry_at (y ∷ xs) (suc i) h = entry_at xs i (omega arith)
 
--- once all are taken, all are laid out
-pub laid_all : {X : Type 0} (f : X → List ℕ) (k : ℕ) (xs : List X) (i : ℕ) (start so_far : List ℕ) (s n : ℕ) → i ≡ length xs →
-    (so_far ≡ start ++ flat_map f (take i xs)) × (n ≡ s + k * i) → (so_far ≡ start ++ flat_map f xs) × (n ≡ s + k * length xs)
-laid_all f k xs i start so_far s n e inv = (
-  inv.0 ∙ ap (λ ys. start ++ flat_map f ys) (take_all i xs (omega arith)),
-  inv.1 ∙ ap (λ j. s + k * j) e,
-)
+-- bytes put last make a list longer by as many
+pub longer : (a b c : List ℕ) → a ≡ b ++ c → length a ≡ length b + length c
+longer a b c e = ap length e ∙ length-append b c
 
--- one more byte copied
-pub copied_more : (bytes old buffer : List ℕ) (i : ℕ) → i < length bytes → i < length old → buffer ≡ take i bytes ++ drop i old → set buffer i (get_or bytes i 0) ≡ take (i + 1) bytes ++ drop (i + 1) old
-copied_more bytes old buffer i h k e =
-    let long = length-take-le i bytes (omega arith) in
-    ap (λ (bs : List ℕ). set bs i (get_or bytes i 0)) e
-    ∙ ap (λ (bs : List ℕ). set (take i bytes ++ bs) i (get_or bytes i 0)) (drop_more old i 0 k)
-    ∙ set_at (take i bytes) (get_or old i 0) (drop (i + 1) old) (get_or bytes i 0) i long
-    ∙ sym (append_assoc (take i bytes) (get_or bytes i 0 ∷ []) (drop (i + 1) old))
-    ∙ ap (λ (bs : List ℕ). bs ++ drop (i + 1) old) (sym (take_more bytes i 0 h))
+-- entries of k bytes each
+pub all_long : {X : Type 0} (f : X → List ℕ) (k : ℕ) → ((x : X) → length (f x) ≡ k) → (xs : List X) → length (flat_map f xs) ≡ k * length xs
+all_long f k each [] = omega arith
+all_long f k each (x ∷ xs) = let one = each x in let more = all_long f k each xs in let joined = length-append (f x) (flat_map f xs) in grind (arith, one, more, joined)
 
--- without ticks there is no reserve
-pub no_ticks : (o : Option Ticks) → ((t : Ticks) → o ≡ Some t → ⊥) → ticks_of o ≡ None
-no_ticks None n = refl
-no_ticks (Some t) n = absurd (n t refl)
+-- a job has at most 20 flows and 16 pairs, so their bytes are few
+pub flows_fit : (j : Job) → length (flat_map flow_bytes (contents j).flows) ≤ 500
+flows_fit j = omega (arith, all_long flow_bytes 25 (λ p. refl) (contents j).flows, j.sheet.few)
 
--- a job has at most 20 flows and 16 pairs
-pub few_flows : (j : Job) → length (contents j).flows ≤ 20
-few_flows j =
-    let list = j.sheet.list in
-    omega (arith, length-map (take list.count list.flows) said, length-take-le list.count list.flows (omega (arith, list.sized, list.few)), list.few)
-
+-- the planner cites this bound
 pub few_pairs : (j : Job) → length (contents j).pairs ≤ 16
-few_pairs j = omega (arith, length-take-le j.pairs.count j.pairs.pairs (omega (arith, j.pairs.sized, j.pairs.few)), j.pairs.few)
+few_pairs j = j.few
+
+pub pairs_fit : (j : Job) → length (flat_map pair_bytes (contents j).pairs) ≤ 112
+pairs_fit j = omega (arith, all_long pair_bytes 7 (λ q. refl) (contents j).pairs, j.few)
+
+pub reserve_fits : (o : Option ℕ) → length (reserve_bytes o) ≤ 7
+reserve_fits None = omega arith
+reserve_fits (Some ticks) = omega arith

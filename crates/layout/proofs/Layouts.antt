@@ -1,7 +1,7 @@
 -- The layout of every job is read as that job. Assumes nothing.
-use Rattle.std.proofs.Common.{◌≡◌, ℕ, ◌+◌, ◌≤◌, true, false, not, eqb, leb, List, [], ◌∷◌, ◌++◌, map, length, take, Some, None, Option, sym, refl, subst, arith}
+use Rattle.std.proofs.Common.{◌≡◌, ℕ, ◌+◌, ◌≤◌, true, false, not, eqb, leb, List, [], ◌∷◌, ◌++◌, map, length, Some, None, Option, sym, refl, subst, arith}
 use Rattle.std.specs.List.{flat_map}
-use Rattle.std.proofs.lemmas.List.{append-nil, append_assoc, length-append, length-take-le}
+use Rattle.std.proofs.lemmas.List.{append-nil, append_assoc, length-append}
 use Rattle.std.proofs.lemmas.Bool.{and_parts, or_parts, not-true, lt-leb, eq-eqb, ne_eqb, both_ways, or_from}
 use Rattle.std.proofs.lemmas.Bool.Decides.{nat_tests}
 use Rattle.chip.specs.declared.flow.Flow.{Flow}
@@ -26,7 +26,6 @@ use Rattle.layout.specs.Layout.{tag_of, value_of, entry_bytes, flow_bytes, pair_
 use Rattle.layout.specs.Progress.{ruled, part_of, flows_alone}
 use Rattle.layout.specs.Reading.{Reads, here, next}
 use Rattle.layout.proofs.Heads.{fine}
-use Rattle.layout.proofs.Laying.{few_flows, few_pairs}
 use Rattle.layout.proofs.Steps.{open_head, then_reads}
 
 -- each value has the length that goes with its tag
@@ -64,7 +63,7 @@ within (Some n) = reserve_fault n ≡ 0
 
 -- flows that exist, have labels of their own, and are few enough
 exists : (f : Flow) → flow_fault (said f) ≡ 0
-exists f = let t = f.times in let m = f.placed in let a = f.apart in let l = f.labelled in grind (arith, nat_tests)
+exists f = f.sound
 
 fresh_label : (done : List FlowParameters) (p : FlowParameters) (ps : List FlowParameters) → distinct_labels (done ++ p ∷ ps) ≡ true → labelled p.label done ≡ false
 fresh_label [] p ps d = refl
@@ -95,7 +94,7 @@ more_flows l (f ∷ fs) done at rest d h =
     (and_then first others)
 
 -- all flows, of which there is one at least
-all_flows : (l : Letter) (fs : List Flow) (at : ℕ) (rest : List ℕ) → 1 ≤ length fs → distinct_labels (map said fs) ≡ true → length (map said fs) ≤ 20 →
+all_flows : (l : Letter) (fs : List Flow) (at : ℕ) (rest : List ℕ) → 1 ≤ length (map said fs) → distinct_labels (map said fs) ≡ true → length (map said fs) ≤ 20 →
     Leads (ruled l) at (flat_map flow_bytes (map said fs) ++ rest) (part_of Flows (flows_alone l (map said fs))) rest
 all_flows l [] at rest some d h = absurd (omega arith)
 all_flows l (f ∷ fs) at rest some d h =
@@ -153,14 +152,12 @@ begins l rest =
 
 pub layout_read : (j : Job) → Leads blank 0 (layout (contents j)) (part_of Done (contents j)) []
 layout_read j =
-    let list = j.sheet.list in
-    let fs = take list.count list.flows in
-    let qs = take j.pairs.count j.pairs.pairs in
+    let fs = j.sheet.flows.items in
+    let qs = j.pairs.items in
     let l = j.letter in
     let r = ticks_of j.reserve in
-    let long = length-take-le list.count list.flows (omega arith) in
     let wishes = reserve_bytes r ++ (flat_map pair_bytes qs ++ entry_bytes entry.End) in
     subst (λ (bs : List ℕ). Leads blank 0 bs (part_of Done (contents j)) []) (sym (regroup (entry_bytes (entry.Rule (letter_code l))) (flat_map flow_bytes (map said fs)) (reserve_bytes r) (flat_map pair_bytes qs) (entry_bytes entry.End)))
     (and_then (begins l (flat_map flow_bytes (map said fs) ++ wishes))
-    (λ n. and_then (all_flows l fs n wishes (omega (arith, long, list.some)) list.distinct (few_flows j))
-    (λ m. all_wishes l (map said fs) r qs m (few_ticks j.reserve) j.known (few_pairs j))))
+    (λ n. and_then (all_flows l fs n wishes j.sheet.some j.sheet.distinct j.sheet.few)
+    (λ m. all_wishes l (map said fs) r qs m (few_ticks j.reserve) j.known j.few)))

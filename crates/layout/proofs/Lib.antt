@@ -1,3 +1,4 @@
+pub mod Bytes
 pub mod Codes
 pub mod Exact
 pub mod Heads

@@ -1,7 +1,7 @@
 -- What was read is what stands before the cursor: the fields so far, laid out. Assumes nothing.
-use Rattle.std.proofs.Common.{◌≡◌, ℕ, true, List, [], ◌++◌, length, is_some, Some, None, Option, sym, refl, ap, ◌∙◌, subst, arith}
+use Rattle.std.proofs.Common.{◌≡◌, ℕ, true, List, [], ◌++◌, is_some, Some, None, Option, sym, refl, ap, ◌∙◌, subst, arith}
 use Rattle.std.specs.List.{flat_map}
-use Rattle.std.proofs.lemmas.List.{append-nil, append_assoc, flat_map_more, drop_all}
+use Rattle.std.proofs.lemmas.List.{append-nil, append_assoc, flat_map_more}
 use Rattle.std.proofs.lemmas.Bool.{false≢true}
 use Rattle.std.proofs.lemmas.Bool.Decides.{nat_tests}
 use Rattle.chip.specs.declared.parameters.FlowParameters.{FlowParameters}
@@ -155,9 +155,6 @@ unfolding so_far rule_bytes end_bytes bytes_of
 laid_out c = ap (λ (bs : List ℕ). rule_bytes (Some c.letter) ++ flat_map flow_bytes c.flows ++ bs ++ flat_map pair_bytes c.pairs ++ end_bytes Done) (ticks_opened c.reserve)
 
 -- an input that is read to its end is a layout
-pub ends_laid_out : (input : List ℕ) (c : Contents) → Ends (start input) input c → input ≡ layout c
+pub ends_laid_out : (input : List ℕ) (c : Contents) → Ends (start input) c → input ≡ layout c
 unfolding so_far rule_bytes ticks_bytes end_bytes
-ends_laid_out input c ends =
-    read_so_far ends (refl, refl, refl, refl)
-    ∙ ap (λ (bs : List ℕ). so_far (part_of Done c) ++ bs) (drop_all (length input) input (omega arith))
-    ∙ append-nil (so_far (part_of Done c)) ∙ laid_out c
+ends_laid_out input c ends = read_so_far ends.1 (refl, refl, refl, refl) ∙ append-nil (so_far (part_of Done c)) ∙ laid_out c

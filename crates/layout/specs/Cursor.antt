@@ -1,30 +1,45 @@
--- What the reader's cursor has passed over, and what a page was given. Assumes nothing.
+-- Where a reader stands, and what it passes over. Assumes nothing.
+--   Cursor     where it stands
 --   Took       these bytes came next, and the cursor moved past them
---   Put        these bytes were laid out last
 --   Peeked     this field came next, its head is sound, and the cursor moved past it
-use Rattle.std.specs.Prelude.{◌≡◌, ℕ, ◌+◌, ◌≤◌, List, ◌∷◌, ◌++◌, length, drop}
+--   Misheaded  no field with a sound head comes next
+use Rattle.std.specs.Prelude.{◌≡◌, ℕ, ◌+◌, ◌≤◌, List, ◌∷◌, ◌++◌, length}
+use Rattle.chip.specs.Refusals.{number_of}
 use Rattle.layout.specs.declared.entry.Entry.{Entry}
 use Rattle.layout.specs.declared.entry.Stage.{Stage}
+use Rattle.layout.specs.declared.entry.Tag.{Tag}
+use Rattle.layout.specs.declared.fault.Fault.{Fault}
 use Rattle.layout.specs.Layout.{be16, entry_bytes}
 use Rattle.layout.specs.Faults.{length_for, open_fault}
+use Rattle.layout.specs.Tags.{tag_number}
 
--- the bytes from `at` begin with these, and `after` is where they end
-pub record Took (bytes : List ℕ) (at after : ℕ) (taken : List ℕ) : Type 0 where
-  pub next : drop at bytes ≡ taken ++ drop after bytes
-  pub moved : after ≡ at + length taken
+-- the bytes that are left, the number of the first of them, and that of the first byte of the field that is being read
+pub record Cursor : Type 0 where
+  pub left : List ℕ
+  pub at : ℕ
+  pub field : ℕ
+
+-- a field begins where the reader stands
+abbrev pub begun : Cursor → Cursor
+begun c = record { left = c.left; at = c.at; field = c.at }
+
+-- these bytes came next, and the same field is being read
+pub record Took (before after : Cursor) (taken : List ℕ) : Type 0 where
+  pub next : before.left ≡ taken ++ after.left
+  pub moved : after.at ≡ before.at + length taken
+  pub field : after.field ≡ before.field
 
 -- a sound head with this tag was passed over, and its value is whole
-pub record Headed (stage : Stage) (bytes : List ℕ) (at after tag : ℕ) : Type 0 where
-  pub sound : open_fault stage (drop at bytes) ≡ 0
-  pub head : Took bytes at after (tag ∷ be16 (length_for tag))
-  pub room : after + length_for tag ≤ length bytes
+pub record Headed (stage : Stage) (before after : Cursor) (tag : Tag) : Type 0 where
+  pub sound : open_fault stage before.left ≡ 0
+  pub head : Took (begun before) after (tag_number tag ∷ be16 (length_for (tag_number tag)))
+  pub room : length_for (tag_number tag) ≤ length after.left
 
 -- the field e was passed over, and its head is sound at this stage
-pub record Peeked (stage : Stage) (bytes : List ℕ) (at after : ℕ) (e : Entry) : Type 0 where
-  pub sound : open_fault stage (drop at bytes) ≡ 0
-  pub field : Took bytes at after (entry_bytes e)
+pub record Peeked (stage : Stage) (before after : Cursor) (e : Entry) : Type 0 where
+  pub sound : open_fault stage before.left ≡ 0
+  pub field : Took (begun before) after (entry_bytes e)
 
--- these bytes were put behind those that were laid out, n of them before and m after
-pub record Put (before : List ℕ) (n : ℕ) (after : List ℕ) (m : ℕ) (bytes : List ℕ) : Type 0 where
-  pub laid : after ≡ before ++ bytes
-  pub count : m ≡ n + length bytes
+-- the head of what comes next is at fault, told with the byte where it begins
+abbrev pub Misheaded : Stage → Cursor → Fault → Type 0
+Misheaded stage before f = (number_of f.refusal ≡ open_fault stage before.left) × (f.byte ≡ before.at)

@@ -2,7 +2,8 @@
 --   part_of      what the fields so far say, where they make these contents
 --   Underway     sound fields lead to these contents, and a field with a sound head was passed over after them
 --   Refuses      sound fields lead to a fault
-use Rattle.std.specs.Prelude.{◌≡◌, ℕ, true, false, List, [], ◌∷◌, ◌++◌, length, drop, Some, None, Ok, Err, Result, ◌==◌}
+--   AnswersAt    what a call answers for one field
+use Rattle.std.specs.Prelude.{◌≡◌, ℕ, true, false, List, [], ◌∷◌, ◌++◌, Some, None, Ok, Err, Result, ◌==◌}
 use Rattle.chip.specs.declared.parameters.FlowParameters.{FlowParameters}
 use Rattle.chip.specs.declared.refusal.Refusal.{Refusal}
 use Rattle.chip.specs.Flows.{flow_fault}
@@ -16,14 +17,14 @@ use Rattle.layout.specs.declared.entry.Entry.{Entry}
 use Rattle.layout.specs.declared.entry.Stage.{Stage}
 use Rattle.layout.specs.declared.entry.Stage.TheVariants.{FirstFlow, Flows, Pairs, Done}
 use Rattle.layout.specs.declared.fault.Fault.{Fault}
-use Rattle.layout.specs.Cursor.{Peeked}
+use Rattle.layout.specs.Cursor.{Peeked, Cursor}
 use Rattle.layout.specs.Faults.{Part, allows, or_else}
 use Rattle.layout.specs.Layout.{tag_of}
 use Rattle.layout.specs.Reading.{State, Reads, Faulty}
 
--- the reader stands at a byte of the input
-abbrev pub at_byte : Part → List ℕ → ℕ → State
-at_byte part bytes at = record { part = part; at = at; rest = drop at bytes }
+-- these fields are read, and the reader stands here
+abbrev pub standing : Part → Cursor → State
+standing part here = record { part = part; at = here.at; rest = here.left }
 
 -- the rule field alone
 abbrev pub ruled : Letter → Part
@@ -45,14 +46,15 @@ pub record Refuses (from : State) (f : Fault) : Type 0 where
   pub place : state.at ≡ f.byte
 
 -- from a state, sound fields lead to the end of the input, and make these contents
-abbrev pub Ends : State → List ℕ → Contents → Type 0
-Ends from bytes c = Reads from (at_byte (part_of Done c) bytes (length bytes))
+abbrev pub Ends : State → Contents → Type 0
+Ends from c = (n : ℕ) × Reads from (record { part = part_of Done c; at = n; rest = [] })
 
--- from a state, sound fields lead to these contents, and the field e comes next, with a sound head
-pub record Underway (from : State) (bytes : List ℕ) (field at : ℕ) (c : Contents) (e : Entry) : Type 0 where
+-- from a state, sound fields lead to these contents, and the reader passed over the field e, with a sound head, to here
+pub record Underway (from : State) (here : Cursor) (c : Contents) (e : Entry) : Type 0 where
   pub stage : Stage
-  pub reached : Reads from (at_byte (part_of stage c) bytes field)
-  pub peeked : Peeked stage bytes field at e
+  pub before : Cursor
+  pub reached : Reads from (standing (part_of stage c) before)
+  pub peeked : Peeked stage before here e
 
 -- a field that may come once the flows are read, and is none itself: the reserve, a pair or the end
 abbrev pub Wish : Entry → Type 0
@@ -73,6 +75,11 @@ pair_told c q = pair_fault c.flows c.pairs q
 -- the contents with one more pair
 abbrev pub with_last : Pair → Contents → Contents
 with_last q c = record { letter = c.letter; flows = c.flows; reserve = c.reserve; pairs = c.pairs ++ q ∷ [] }
+
+-- a call that is accepted if its fault is 0, and then makes this, or is refused for its fault, told at this byte
+abbrev pub AnswersAt : {X : Type 0} → ℕ → Result X Fault → ℕ → (X → Type 0) → Type 0
+AnswersAt byte (Ok x) fault made = (fault ≡ 0) × made x
+AnswersAt byte (Err f) fault made = (number_of f.refusal ≡ fault) × (f.byte ≡ byte)
 
 -- a refusal, told at a byte
 abbrev pub placed : {X : Type 0} → ℕ → Result X Refusal → Result X Fault

@@ -1,135 +1,102 @@
 // The bytes of a sheet as they are laid out, field by field, before they go into a caller's buffer.
-ghost use Rattle.std.specs.Prelude.{◌≡◌, ◌+◌, ◌<◌, ◌≤◌, [], ◌∷◌, length, take};
+ghost use Rattle.std.specs.Prelude.{◌≡◌, ◌+◌, ◌≤◌, ◌∷◌, ◌++◌, [], length};
 ghost use Rattle.chip.specs.Flows.{Answers};
-ghost use Rattle.layout.specs.Cursor.{Put};
 ghost use Rattle.layout.specs.Writing.{write_fault, written_over};
-ghost use Rattle.layout.specs.Layout.{be16, be32, entry_bytes, flow_value};
+ghost use Rattle.layout.specs.Layout.{be16, entry_bytes, flow_value};
+ghost use Rattle.layout.specs.Faults.{length_for};
+ghost use Rattle.layout.specs.Tags.{tag_number};
 
-use crate::entry::{END, Entry, FLOW, PAIR, RESERVE, RULE};
+use crate::entry::{Entry, Tag};
 use chip::{FlowParameters, Refusal};
+use std::marker::Model;
+use table::Table;
 
 // The longest sheet: the rule, 20 flows, the reserve, 16 pairs and the end.
 pub const MAX_SHEET: usize = 626;
 
-// The first `count` bytes are laid out.
-#[derive(Clone, Copy)]
+// A clause sees the bytes that are laid out, as a list.
+#[derive(Drop)]
 pub struct Page {
-    bytes: [u8; 626],
-    count: usize,
-    ghost sized: { length bytes ≡ 626 },
-    ghost few: { count ≤ 626 },
+    bytes: Table<u8, MAX_SHEET>,
+}
+
+impl Model for Page {
+    ghost use Rattle.std.specs.Prelude.{List, ℕ};
+
+    ghost Value = { List ℕ };
+
+    ghost view = { λ page. page.bytes.items };
 }
 
 impl Page {
     // The page without a byte.
     pub(crate) fn blank() -> Page
-        ensures { (take result.count result.bytes ≡ []) × (result.count ≡ 0) }
+        ensures { result ≡ [] }
     {
         Page {
-            bytes: [0; 626],
-            count: 0,
+            bytes: Table::empty(0),
         }
     }
 
-    // How many bytes are laid out.
-    pub(crate) fn count(&self) -> usize
-        ensures { result ≡ self.now.count }
+    // Puts these bytes last.
+    fn put(&mut self, bytes: &[u8])
+        requires { length self.old + length bytes.now ≤ MAX_SHEET }
+        ensures { self.new ≡ self.old ++ bytes.now }
     {
-        self.count
+        self.bytes.extend(bytes).unwrap();
     }
 
-    // Puts one byte last.
-    fn push(&mut self, byte: u8)
-        requires { self.old.count + 1 ≤ 626 }
-        ensures { Put (take self.old.count self.old.bytes) self.old.count (take self.new.count self.new.bytes) self.new.count (byte ∷ []) }
+    // Puts the tag of a field and the length of its value last.
+    fn head(&mut self, tag: Tag)
+        requires { length self.old + 3 ≤ MAX_SHEET }
+        ensures { self.new ≡ self.old ++ tag_number tag ∷ be16 (length_for (tag_number tag)) }
     {
-        let count = self.count;
-        self.bytes[count] = byte;
-        self.count = count + 1;
-    }
-
-    // Puts a number last, in two bytes.
-    fn u16(&mut self, n: u16)
-        requires { self.old.count + 2 ≤ 626 }
-        ensures { Put (take self.old.count self.old.bytes) self.old.count (take self.new.count self.new.bytes) self.new.count (be16 n) }
-    {
-        self.push((n / 256) as u8);
-        self.push((n % 256) as u8);
-    }
-
-    // Puts a number last, in four bytes.
-    fn u32(&mut self, n: u32)
-        requires { self.old.count + 4 ≤ 626 }
-        ensures { Put (take self.old.count self.old.bytes) self.old.count (take self.new.count self.new.bytes) self.new.count (be32 n) }
-    {
-        self.u16((n / 65536) as u16);
-        self.u16((n % 65536) as u16);
+        self.put(&[tag.number()]);
+        self.put(&tag.length().to_be_bytes());
     }
 
     // Puts the value of a flow field last.
     fn flow(&mut self, p: FlowParameters)
-        requires { self.old.count + 22 ≤ 626 }
-        ensures { Put (take self.old.count self.old.bytes) self.old.count (take self.new.count self.new.bytes) self.new.count (flow_value p) }
+        requires { length self.old + 22 ≤ MAX_SHEET }
+        ensures { self.new ≡ self.old ++ flow_value p }
     {
-        self.u16(p.label);
-        self.u32(p.period);
-        self.u32(p.deadline);
-        self.u32(p.jitter);
-        self.u32(p.latency);
-        self.push(p.source.column);
-        self.push(p.source.row);
-        self.push(p.destination.column);
-        self.push(p.destination.row);
-    }
-
-    // Puts the tag of a field and the length of its value last.
-    fn head(&mut self, tag: u8, length: u16)
-        requires { self.old.count + 3 ≤ 626 }
-        ensures { Put (take self.old.count self.old.bytes) self.old.count (take self.new.count self.new.bytes) self.new.count (tag ∷ be16 length) }
-    {
-        self.push(tag);
-        self.u16(length);
+        self.put(&p.label.to_be_bytes());
+        self.put(&p.period.to_be_bytes());
+        self.put(&p.deadline.to_be_bytes());
+        self.put(&p.jitter.to_be_bytes());
+        self.put(&p.latency.to_be_bytes());
+        self.put(&[
+            p.source.column,
+            p.source.row,
+            p.destination.column,
+            p.destination.row,
+        ]);
     }
 
     // Puts a field last.
     pub(crate) fn entry(&mut self, e: Entry)
-        requires { self.old.count + length (entry_bytes e) ≤ 626 }
-        ensures { Put (take self.old.count self.old.bytes) self.old.count (take self.new.count self.new.bytes) self.new.count (entry_bytes e) }
+        requires { length self.old + length (entry_bytes e) ≤ MAX_SHEET }
+        ensures { self.new ≡ self.old ++ entry_bytes e }
     {
+        self.head(e.tag());
         match e {
-            Entry::Rule(letter) => {
-                self.head(RULE, 1);
-                self.push(letter);
-            }
-            Entry::Flow(parameters) => {
-                self.head(FLOW, 22);
-                self.flow(parameters);
-            }
-            Entry::Reserve(ticks) => {
-                self.head(RESERVE, 4);
-                self.u32(ticks);
-            }
+            Entry::Rule(letter) => self.put(&[letter]),
+            Entry::Flow(parameters) => self.flow(parameters),
+            Entry::Reserve(ticks) => self.put(&ticks.to_be_bytes()),
             Entry::Pair(pair) => {
-                self.head(PAIR, 4);
-                self.u16(pair.first);
-                self.u16(pair.later);
+                self.put(&pair.first.to_be_bytes());
+                self.put(&pair.later.to_be_bytes());
             }
-            Entry::End => self.head(END, 0),
+            Entry::End => {}
         }
     }
 
     // Copies the bytes that are laid out to the front of the buffer, and tells how many there are. Refuses a buffer
     // that is shorter, and leaves it as it was.
     pub(crate) fn copy_to(&self, buffer: &mut [u8]) -> Result<usize, Refusal>
-        ensures reply { Answers result (write_fault (take self.now.count self.now.bytes) buffer.old) (λ n. n ≡ length (take self.now.count self.now.bytes)) }
-        ensures after { buffer.new ≡ written_over (take self.now.count self.now.bytes) buffer.old }
+        ensures reply { Answers result (write_fault self.now buffer.old) (λ n. n ≡ length self.now) }
+        ensures after { buffer.new ≡ written_over self.now buffer.old }
     {
-        if buffer.len() < self.count {
-            return Err(Refusal::ShortBuffer);
-        }
-        for i in 0..self.count {
-            buffer[i] = self.bytes[i];
-        }
-        Ok(self.count)
+        self.bytes.copy_to(buffer).map_err(|_| Refusal::ShortBuffer)
     }
 }

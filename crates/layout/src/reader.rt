@@ -1,76 +1,92 @@
 // The reader: a cursor over the lent bytes of a sheet.
-ghost use Rattle.std.specs.Prelude.{◌≡◌, ◌+◌, ◌<◌, ◌≤◌, [], ◌∷◌, length, drop, MatchResult};
-ghost use Rattle.chip.specs.Refusals.{number_of};
-ghost use Rattle.layout.specs.Cursor.{Took, Headed, Peeked};
-ghost use Rattle.layout.specs.Faults.{open_fault};
+ghost use Rattle.std.specs.Prelude.{◌≡◌, ◌≤◌, ◌<◌, [], ◌∷◌, length, MatchResult};
+ghost use Rattle.layout.specs.Cursor.{Took, Headed, Peeked, Misheaded};
 ghost use Rattle.layout.specs.Progress.{placed};
 ghost use Rattle.layout.specs.Layout.{be16, be32, flow_value, pair_value};
 
-use crate::entry::{Entry, FLOW, PAIR, RESERVE, RULE, Stage, length_for};
+use crate::entry::{Entry, Stage, Tag};
 use crate::fault::Fault;
 use chip::{FlowParameters, Refusal, Router};
 use sheet::Pair;
+use std::marker::Model;
 
-// `at` is the cursor, `field` the start of the field that is being read.
+// `at` is the cursor, `field` the start of the field that is being read. A clause sees them and the bytes that are left.
 #[derive(Drop)]
 pub struct Reader<'a> {
     bytes: &'a [u8],
     at: usize,
     field: usize,
-    ghost inside: { at ≤ length bytes.now },
-    ghost begun: { field ≤ at },
+}
+
+impl<'a> Model for Reader<'a> {
+    ghost use Rattle.std.specs.Prelude.{◌≤◌, length, drop};
+    ghost use Rattle.layout.specs.Cursor.{Cursor};
+
+    ghost Value = { Cursor };
+
+    ghost view = { λ r. record { left = drop r.at r.bytes.now; at = r.at; field = r.field } };
+
+    ghost invariant = { λ r. r.at ≤ length r.bytes.now };
 }
 
 impl<'a> Reader<'a> {
-    // The next byte.
-    fn byte(&mut self) -> u8
-        requires { self.old.at + 1 ≤ length self.old.bytes.now }
-        ensures took { Took self.old.bytes.now self.old.at self.new.at (result ∷ []) }
-        ensures kept { (self.new.bytes.now ≡ self.old.bytes.now) × (self.new.field ≡ self.old.field) }
+    // A reader at the first of these bytes.
+    pub(crate) fn new(bytes: &'a [u8]) -> Reader<'a>
+        ensures { result ≡ record { left = bytes.now; at = 0; field = 0 } }
     {
-        let b = self.bytes[self.at];
-        self.at += 1;
-        b
+        Reader {
+            bytes,
+            at: 0,
+            field: 0,
+        }
+    }
+
+    // How many bytes are left.
+    fn left(&self) -> usize
+        ensures { result ≡ length self.now.left }
+    {
+        self.bytes.len() - self.at
+    }
+
+    // The next bytes, as many as the array holds.
+    fn take<const N: usize>(&mut self) -> [u8; N]
+        requires { N ≤ length self.old.left }
+        ensures { Took self.old self.new result }
+    {
+        let taken = self.bytes[self.at..].first_chunk().unwrap();
+        self.at += N;
+        *taken
     }
 
     // The number in the next two bytes.
     fn u16(&mut self) -> u16
-        requires { self.old.at + 2 ≤ length self.old.bytes.now }
-        ensures took { Took self.old.bytes.now self.old.at self.new.at (be16 result) }
-        ensures kept { (self.new.bytes.now ≡ self.old.bytes.now) × (self.new.field ≡ self.old.field) }
+        requires { 2 ≤ length self.old.left }
+        ensures { Took self.old self.new (be16 result) }
     {
-        let high = self.byte();
-        let low = self.byte();
-        high as u16 * 256 + low as u16
+        u16::from_be_bytes(self.take())
     }
 
     // The number in the next four bytes.
     fn u32(&mut self) -> u32
-        requires { self.old.at + 4 ≤ length self.old.bytes.now }
-        ensures took { Took self.old.bytes.now self.old.at self.new.at (be32 result) }
-        ensures kept { (self.new.bytes.now ≡ self.old.bytes.now) × (self.new.field ≡ self.old.field) }
+        requires { 4 ≤ length self.old.left }
+        ensures { Took self.old self.new (be32 result) }
     {
-        let high = self.u16();
-        let low = self.u16();
-        high as u32 * 65536 + low as u32
+        u32::from_be_bytes(self.take())
     }
 
     // The router in the next two bytes.
     fn router(&mut self) -> Router
-        requires { self.old.at + 2 ≤ length self.old.bytes.now }
-        ensures took { Took self.old.bytes.now self.old.at self.new.at (result.column ∷ result.row ∷ []) }
-        ensures kept { (self.new.bytes.now ≡ self.old.bytes.now) × (self.new.field ≡ self.old.field) }
+        requires { 2 ≤ length self.old.left }
+        ensures { Took self.old self.new (result.column ∷ result.row ∷ []) }
     {
-        let column = self.byte();
-        let row = self.byte();
+        let [column, row] = self.take::<2>();
         Router { column, row }
     }
 
     // The labels in the next four bytes.
     fn pair(&mut self) -> Pair
-        requires { self.old.at + 4 ≤ length self.old.bytes.now }
-        ensures took { Took self.old.bytes.now self.old.at self.new.at (pair_value result) }
-        ensures kept { (self.new.bytes.now ≡ self.old.bytes.now) × (self.new.field ≡ self.old.field) }
+        requires { 4 ≤ length self.old.left }
+        ensures { Took self.old self.new (pair_value result) }
     {
         let first = self.u16();
         let later = self.u16();
@@ -79,9 +95,8 @@ impl<'a> Reader<'a> {
 
     // What the next 22 bytes say of a flow.
     fn flow(&mut self) -> FlowParameters
-        requires { self.old.at + 22 ≤ length self.old.bytes.now }
-        ensures took { Took self.old.bytes.now self.old.at self.new.at (flow_value result) }
-        ensures kept { (self.new.bytes.now ≡ self.old.bytes.now) × (self.new.field ≡ self.old.field) }
+        requires { 22 ≤ length self.old.left }
+        ensures { Took self.old self.new (flow_value result) }
     {
         let label = self.u16();
         let period = self.u32();
@@ -101,85 +116,62 @@ impl<'a> Reader<'a> {
         }
     }
 
-    // The fault with this cause at the start of the field that is being read.
-    fn fault(&self, refusal: Refusal) -> Fault
-        ensures { result ≡ record { refusal = refusal; byte = self.now.field } }
-    {
-        Fault {
-            refusal,
-            byte: self.field,
-        }
-    }
-
     // The same result, with the byte of the field that is being read beside a refusal.
     pub(crate) fn at_field<T>(&self, res: Result<T, Refusal>) -> Result<T, Fault>
         ensures { result ≡ placed self.now.field res }
     {
-        match res {
-            Ok(x) => Ok(x),
-            Err(refusal) => Err(self.fault(refusal)),
-        }
+        let byte = self.field;
+        res.map_err(|refusal| Fault { refusal, byte })
     }
 
     // Begins a field: its tag, once its head is sound at this stage and its value is whole.
-    fn head(&mut self, stage: Stage) -> Result<u8, Fault>
-        ensures kept { (self.new.bytes.now ≡ self.old.bytes.now) × (self.new.field ≡ self.old.at) }
-        ensures cases { MatchResult result (λ tag. Headed stage self.old.bytes.now self.old.at self.new.at tag) (λ f. (number_of f.refusal ≡ open_fault stage (drop self.old.at self.old.bytes.now)) × (f.byte ≡ self.old.at)) }
+    fn head(&mut self, stage: Stage) -> Result<Tag, Fault>
+        ensures { MatchResult result (λ tag. Headed stage self.old self.new tag) (λ f. Misheaded stage self.old f) }
     {
         self.field = self.at;
-        let left = self.bytes.len() - self.at;
-        if left < 3 {
-            return Err(self.fault(Refusal::Truncated));
+        if self.left() < 3 {
+            return self.at_field(Err(Refusal::Truncated));
         }
-        let tag = self.byte();
+        let [number] = self.take::<1>();
         let length = self.u16();
+        let tag = self.at_field(Tag::try_from(number))?;
         if !stage.allows(tag) {
-            return Err(self.fault(Refusal::Tag));
+            return self.at_field(Err(Refusal::Tag));
         }
-        if length != length_for(tag) {
-            return Err(self.fault(Refusal::Length));
+        if length != tag.length() {
+            return self.at_field(Err(Refusal::Length));
         }
-        if left - 3 < length as usize {
-            return Err(self.fault(Refusal::Truncated));
+        if self.left() < length as usize {
+            return self.at_field(Err(Refusal::Truncated));
         }
         Ok(tag)
     }
 
     // The next field, once its head is sound at this stage.
     pub(crate) fn entry(&mut self, stage: Stage) -> Result<Entry, Fault>
-        ensures kept { (self.new.bytes.now ≡ self.old.bytes.now) × (self.new.field ≡ self.old.at) }
-        ensures cases { MatchResult result (λ e. Peeked stage self.old.bytes.now self.old.at self.new.at e) (λ f. (number_of f.refusal ≡ open_fault stage (drop self.old.at self.old.bytes.now)) × (f.byte ≡ self.old.at)) }
+        ensures { MatchResult result (λ e. Peeked stage self.old self.new e) (λ f. Misheaded stage self.old f) }
     {
-        let tag = self.head(stage)?;
-        match tag {
-            RULE => Ok(Entry::Rule(self.byte())),
-            FLOW => Ok(Entry::Flow(self.flow())),
-            RESERVE => Ok(Entry::Reserve(self.u32())),
-            PAIR => Ok(Entry::Pair(self.pair())),
-            _ => Ok(Entry::End),
-        }
+        let entry = match self.head(stage)? {
+            Tag::Rule => {
+                let [letter] = self.take::<1>();
+                Entry::Rule(letter)
+            }
+            Tag::Flow => Entry::Flow(self.flow()),
+            Tag::Reserve => Entry::Reserve(self.u32()),
+            Tag::Pair => Entry::Pair(self.pair()),
+            Tag::End => Entry::End,
+        };
+        Ok(entry)
     }
 
     // Ends the reading: nothing may follow the end field.
     pub(crate) fn finish(&mut self) -> Result<(), Fault>
-        ensures kept { self.new.bytes.now ≡ self.old.bytes.now }
-        ensures cases { MatchResult result (λ _. self.old.at ≡ length self.old.bytes.now) (λ f. (self.old.at < length self.old.bytes.now) × (f ≡ record { refusal = Refusal.TrailingBytes; byte = self.old.at })) }
+        ensures { MatchResult result (λ _. self.old.left ≡ []) (λ f. (0 < length self.old.left) × (f ≡ record { refusal = Refusal.TrailingBytes; byte = self.old.at })) }
     {
         self.field = self.at;
-        if self.at < self.bytes.len() {
-            return Err(self.fault(Refusal::TrailingBytes));
+        if self.left() > 0 {
+            return self.at_field(Err(Refusal::TrailingBytes));
         }
         Ok(())
-    }
-
-    // A reader at the first of these bytes.
-    pub(crate) fn new(bytes: &'a [u8]) -> Reader<'a>
-        ensures { (result.bytes.now ≡ bytes.now) × (result.at ≡ 0) × (result.field ≡ 0) }
-    {
-        Reader {
-            bytes,
-            at: 0,
-            field: 0,
-        }
     }
 }

@@ -1,5 +1,5 @@
 // Writing: the layout of a job goes into the caller's buffer.
-ghost use Rattle.std.specs.Prelude.{◌≡◌, ◌+◌, ◌*◌, ◌≤◌, ◌++◌, length, take};
+ghost use Rattle.std.specs.Prelude.{◌≡◌, ◌+◌, ◌≤◌, ◌++◌, length};
 ghost use Rattle.std.specs.List.{flat_map};
 ghost use Rattle.chip.specs.Flows.{Answers};
 ghost use Rattle.job.specs.Jobs.{contents};
@@ -8,47 +8,50 @@ ghost use Rattle.layout.specs.Layout.{flow_bytes, pair_bytes, reserve_bytes, lay
 ghost use Rattle.layout.specs.Writing.{write_fault, written_over, ReadsBack};
 
 use crate::entry::Entry;
-use crate::page::Page;
+use crate::page::{MAX_SHEET, Page};
 use chip::Refusal;
 use job::Job;
 use sheet::Sheet;
 
 // Lays out the flows of a sheet.
+// No one function with `pairs`: each is a loop of one line, and the field of an item would be a closure with a clause.
 fn flows(page: &mut Page, sheet: &Sheet)
-    requires { page.old.count + 25 * length (flows_of sheet.now) ≤ 626 }
-    ensures laid { take page.new.count page.new.bytes ≡ take page.old.count page.old.bytes ++ flat_map flow_bytes (flows_of sheet.now) }
-    ensures count { page.new.count ≡ page.old.count + 25 * length (flows_of sheet.now) }
+    requires { length page.old + length (flat_map flow_bytes (flows_of sheet.now)) ≤ MAX_SHEET }
+    ensures { page.new ≡ page.old ++ flat_map flow_bytes (flows_of sheet.now) }
 {
-    for i in 0..sheet.count() {
-        if let Some(flow) = sheet.flow(i + 1) {
-            page.entry(Entry::Flow(flow.parameters()));
-        }
+    for flow in sheet.flows() {
+        page.entry(Entry::Flow(flow.parameters()));
+    }
+}
+
+// Lays out the reserve of a job, if it has one.
+fn reserve(page: &mut Page, job: &Job)
+    requires { length page.old + length (reserve_bytes (contents job.now).reserve) ≤ MAX_SHEET }
+    ensures { page.new ≡ page.old ++ reserve_bytes (contents job.now).reserve }
+{
+    if let Some(ticks) = job.reserve() {
+        page.entry(Entry::Reserve(ticks.count()));
     }
 }
 
 // Lays out the pairs of a job.
 fn pairs(page: &mut Page, job: &Job)
-    requires { page.old.count + 7 * length (contents job.now).pairs ≤ 626 }
-    ensures laid { take page.new.count page.new.bytes ≡ take page.old.count page.old.bytes ++ flat_map pair_bytes (contents job.now).pairs }
-    ensures count { page.new.count ≡ page.old.count + 7 * length (contents job.now).pairs }
+    requires { length page.old + length (flat_map pair_bytes (contents job.now).pairs) ≤ MAX_SHEET }
+    ensures { page.new ≡ page.old ++ flat_map pair_bytes (contents job.now).pairs }
 {
-    for i in 0..job.pair_count() {
-        if let Some(pair) = job.pair(i) {
-            page.entry(Entry::Pair(pair));
-        }
+    for pair in job.pairs() {
+        page.entry(Entry::Pair(*pair));
     }
 }
 
 // Lays out a job.
 fn lay_out(job: &Job) -> Page
-    ensures { take result.count result.bytes ≡ layout (contents job.now) }
+    ensures { result ≡ layout (contents job.now) }
 {
     let mut page = Page::blank();
-    page.entry(Entry::Rule(job.letter().as_char() as u8));
+    page.entry(Entry::Rule(char::from(job.letter()) as u8));
     flows(&mut page, job.sheet());
-    if let Some(ticks) = job.reserve() {
-        page.entry(Entry::Reserve(ticks.count()));
-    }
+    reserve(&mut page, job);
     pairs(&mut page, job);
     page.entry(Entry::End);
     page

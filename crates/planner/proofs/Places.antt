@@ -1,41 +1,44 @@
--- The places of labels on a sheet: found by looking from the first flow on, within the sheet, apart. Assumes nothing.
-use Rattle.std.proofs.Common.{◌≡◌, ℕ, suc, ◌+◌, ◌<◌, Bool, true, false, not, ◌&&◌, eqb, List, [], ◌∷◌, length, get_or, drop, Some, sym, refl, ap, ◌∙◌, arith}
-use Rattle.std.proofs.lemmas.List.{drop_more, drop_all}
-use Rattle.std.proofs.lemmas.Bool.{eqb-true, eqb-false, eq-eqb, ne_eqb, le-leb, and_parts, and_from, not-true, not_from_false}
+-- The places of labels on a sheet: found by a search from the first flow on, within the sheet, apart. Assumes nothing.
+use Rattle.std.proofs.Common.{◌≡◌, ℕ, suc, ◌+◌, ◌<◌, Bool, true, false, not, ◌&&◌, ◌||◌, ◌==◌, nat_lt, cond, eqb, List, [], ◌∷◌, map, length, None, Some, sym, refl, ap, ap₂, ◌∙◌, add-one, arith}
+use Rattle.std.specs.List.{position, position_or_len}
+use Rattle.std.specs.Option.{option_map}
+use Rattle.std.proofs.lemmas.List.{length-map}
+use Rattle.std.proofs.lemmas.List.Recursion.{is_position_or_len}
+use Rattle.std.proofs.Math.Dec.{leb-suc-suc}
+use Rattle.std.proofs.lemmas.Bool.{eqb-true, eqb-false, ne_eqb, le-leb, lt-ltb, and_parts, and_from, not-true, not_from_false}
+use Rattle.chip.specs.declared.flow.Flow.{Flow}
 use Rattle.chip.specs.declared.parameters.FlowParameters.{FlowParameters}
 use Rattle.sheet.specs.declared.pair.Pair as sheet
-use Rattle.sheet.specs.Flows.{labelled, flow_numbered}
+use Rattle.sheet.specs.Flows.{said, labelled}
 use Rattle.sheet.specs.Pairs.{pair_holds}
 use Rattle.precedence.specs.Pairs.{two_flows}
 use Rattle.rule.specs.Lists.{is_flow}
-use Rattle.interference.proofs.Sheets as sheets
 use Rattle.planner.specs.JobRules.{place, number, numbered}
 
--- the flows from the one with number i + 1 on
-module _ (label : ℕ) (ps : List FlowParameters) (i : ℕ) (p : FlowParameters) (inside : i < length ps) (told : Some p ≡ flow_numbered (i + 1) ps) where
-  left : drop i ps ≡ p ∷ drop (i + 1) ps
-  left =
-      let there = sheets.numbered ps i p inside in
-      let same : get_or ps i p ≡ p = cc in
-      drop_more ps i p inside ∙ ap (λ (q : FlowParameters). q ∷ drop (i + 1) ps) same
+-- the place of a label among flows is where a search for it ends
+searched : (label : ℕ) (fs : List Flow) → place label (map said fs) ≡ position_or_len (λ f. label == f.parameters.label) fs
+searched label fs = is_position_or_len (λ fs. place label (map said fs)) (λ f. label == f.parameters.label) refl (λ f fs. ap (cond (label == f.parameters.label) 0) (omega arith)) fs
 
-  -- a label that the next flow has
-  pub place_here : label ≡ p.label → i + place label (drop i ps) ≡ place label ps → i ≡ place label ps
-  place_here e inv =
-      let here : place label (drop i ps) ≡ 0 = ap (place label) left ∙ rw (eq-eqb label p.label e) refl in
-      omega arith
+-- a label is on the sheet if its place is
+labelled_within : (label : ℕ) (ps : List FlowParameters) → nat_lt (place label ps) (length ps) ≡ labelled label ps
+labelled_within label [] = refl
+labelled_within label (p ∷ ps) = at (label == p.label) (labelled_within label ps)
+  where
+    at : (b : Bool) → nat_lt (place label ps) (length ps) ≡ labelled label ps → nat_lt (cond b 0 (suc (place label ps))) (suc (length ps)) ≡ (b || labelled label ps)
+    at true rest = lt-ltb 0 (suc (length ps)) (omega arith)
+    at false rest = leb-suc-suc (suc (place label ps)) (length ps) ∙ rest
 
-  -- a label that it has not
-  pub place_further : (label ≡ p.label → ⊥) → i + place label (drop i ps) ≡ place label ps → (i + 1) + place label (drop (i + 1) ps) ≡ place label ps
-  place_further ne inv =
-      let on : place label (drop i ps) ≡ suc (place label (drop (i + 1) ps)) = ap (place label) left ∙ rw (ne_eqb label p.label ne) refl in
-      omega arith
-
--- a label that no flow has
-pub place_past : (label : ℕ) (ps : List FlowParameters) (i : ℕ) → i ≡ length ps → i + place label (drop i ps) ≡ place label ps → i ≡ place label ps
-place_past label ps i e inv =
-    let none : place label (drop i ps) ≡ 0 = ap (place label) (drop_all i ps (omega arith)) in
-    omega arith
+-- the number of the flow that a search finds
+pub found : (label : ℕ) (fs : List Flow) → option_map (λ n. n + 1) (position (λ f. label == f.parameters.label) fs) ≡ cond (labelled label (map said fs)) (Some (number (map said fs) label)) None
+found label fs =
+    let within : nat_lt (position_or_len (λ f. label == f.parameters.label) fs) (length fs) ≡ labelled label (map said fs) =
+    ap₂ nat_lt (sym (searched label fs)) (sym (length-map fs said)) ∙ labelled_within label (map said fs)
+    in
+    ap₂ (λ b n. option_map (λ n. n + 1) (cond b (Some n) None)) within (sym (searched label fs)) ∙ at (place label (map said fs)) (labelled label (map said fs))
+  where
+    at : (n : ℕ) (b : Bool) → option_map (λ n. n + 1) (cond b (Some n) None) ≡ cond b (Some (suc n)) None
+    at n true = ap Some (add-one n)
+    at n false = refl
 
 -- a label of the sheet has its place on it
 place_within : (label : ℕ) (ps : List FlowParameters) → labelled label ps ≡ true → place label ps < length ps

@@ -1,7 +1,6 @@
 -- What the calls from C answer, for every input. Assumes nothing.
 --   fault_of         the number of a refusal, 0 if there is none
 --   outcome_number   how a search stands, by its number
---   reply_fault, -length, -outcome, -count    what a reply of a run tells
 --   plan_told        the reply for a search after its placings
 --   planned          the reply of the call that plans a sheet, by what reading the sheet answers
 --   Planned          the promise of that call: its reply and its buffer
@@ -15,8 +14,6 @@ use Rattle.search.specs.declared.tables.Outcome.{Outcome}
 use Rattle.search.specs.declared.tables.Outcome.TheVariants.{Open, Order, NoOrder}
 use Rattle.search.specs.Answers.{outcome_of}
 use Rattle.search.specs.Plans.{plan_reply, plan_after}
-use Rattle.runs.specs.declared.calls.Reply.{Reply}
-use Rattle.runs.specs.declared.calls.Reply.TheVariants as A
 use Rattle.planner.specs.declared.replies.PlanReply.{PlanReply}
 use Rattle.planner.specs.JobRules.{job_meaning}
 
@@ -35,43 +32,6 @@ abbrev pub outcome_number : Outcome → ℕ
 outcome_number Open = 0
 outcome_number Order = 1
 outcome_number NoOrder = 2
-
--- what a reply of a run tells: the number of a refusal, the length of a plan, an outcome's number, a count; 0 elsewhere
-abbrev pub reply_fault : Reply → ℕ
-reply_fault A.Advanced = 0
-reply_fault (A.Outcome o) = 0
-reply_fault (A.Count n) = 0
-reply_fault (A.Level l) = 0
-reply_fault (A.Plan n) = 0
-reply_fault (A.Same b) = 0
-reply_fault (A.Refused e) = number_of e
-
-abbrev pub reply_length : Reply → ℕ
-reply_length A.Advanced = 0
-reply_length (A.Outcome o) = 0
-reply_length (A.Count n) = 0
-reply_length (A.Level l) = 0
-reply_length (A.Plan n) = n
-reply_length (A.Same b) = 0
-reply_length (A.Refused e) = 0
-
-abbrev pub reply_outcome : Reply → ℕ
-reply_outcome A.Advanced = 0
-reply_outcome (A.Outcome o) = outcome_number o
-reply_outcome (A.Count n) = 0
-reply_outcome (A.Level l) = 0
-reply_outcome (A.Plan n) = 0
-reply_outcome (A.Same b) = 0
-reply_outcome (A.Refused e) = 0
-
-abbrev pub reply_count : Reply → ℕ
-reply_count A.Advanced = 0
-reply_count (A.Outcome o) = 0
-reply_count (A.Count n) = n
-reply_count (A.Level l) = 0
-reply_count (A.Plan n) = 0
-reply_count (A.Same b) = 0
-reply_count (A.Refused e) = 0
 
 -- a refusal with a number at a byte
 abbrev pub plan_refused : ℕ → ℕ → PlanReply

@@ -3,8 +3,10 @@
 --   numbered        a pair of labels as a pair of flow numbers
 --   job_meaning     what a job's contents ask for
 --   judged          what a job's rule answers
+--   offers          the pairs that stand in places, some of which hold none
 --   taken           the pairs that a precedence has after others were offered to it
 use Rattle.std.specs.Prelude.{ℕ, suc, cond, List, [], ◌∷◌, map, Some, None, Option, ◌==◌}
+use Rattle.std.specs.List.{filter_map}
 use Rattle.chip.specs.declared.parameters.FlowParameters.{FlowParameters}
 use Rattle.sheet.specs.declared.pair.Pair as sheet
 use Rattle.job.specs.Jobs.{Contents}
@@ -35,6 +37,10 @@ numbered ps q = record { first = number ps q.first; later = number ps q.later }
 abbrev pub ticks_or_0 : Option ℕ → ℕ
 ticks_or_0 None = 0
 ticks_or_0 (Some ticks) = ticks
+
+-- the pairs that stand in places
+abbrev pub offers : List (Option Pair) → List Pair
+offers places = filter_map (λ (place : Option Pair). place) places
 
 -- the job's pairs, on its reserve, on the rule that its letter names for its flows
 abbrev pub job_meaning : Contents → Meaning

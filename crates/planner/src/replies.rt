@@ -1,4 +1,4 @@
-// What the calls from C answer, as plain structs of numbers.
+// What the calls from C answer, as plain structs of numbers, since C has no enums that hold values.
 
 // The reply to a call that plans a sheet: the number of the refusal, or 0; how the search stands (0 open, 1 ended with an
 // order, 2 ended with "no order"); the byte at which a refused sheet is at fault; the length of the plan written; and

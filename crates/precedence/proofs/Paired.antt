@@ -1,6 +1,7 @@
 -- Tables of the flows that each flow must precede: how they grow, and what they hold back. Assumes nothing.
 use Rattle.std.proofs.Common.{◌≡◌, ℕ, zero, suc, ◌+◌, ◌-◌, ◌<◌, ◌≤◌, Bool, true, false, cond, not, ◌||◌, eqb, List, [], ◌∷◌, ◌++◌, map, length, get_or, set, replicate, Ok, Err, sym, refl, ap, ◌∙◌, ap₂, add-zero, arith}
 use lib.ListN as ListN
+use Rattle.std.specs.List.{list_any}
 use Rattle.std.proofs.lemmas.Bool.Decides.{nat_tests}
 use Rattle.std.proofs.lemmas.List.{map-set, get_or-map, length-map, append-nil}
 use Rattle.std.proofs.lemmas.Bool.{cond-true, cond-false, eq-eqb, ne_eqb, and_from, not_from_false, lt-ltb, le-ltb}
@@ -9,7 +10,7 @@ use Rattle.rule.specs.Lists.{is_flow, marks, marks_from, has}
 use Rattle.rule.specs.FlowSets.{marks_of, put, both, empty}
 use Rattle.rule.proofs.Members.{marks_push, marks_cons, marks_length}
 use Rattle.precedence.specs.declared.pair.Pair.{Pair}
-use Rattle.precedence.specs.Pairs.{laters, any, later_sets, two_flows, add_reply}
+use Rattle.precedence.specs.Pairs.{laters, later_sets, two_flows, add_reply}
 use Rattle.precedence.specs.Held.{after_add}
 use Rattle.chip.specs.declared.refusal.Refusal.TheVariants.{TooManyPairs}
 
@@ -119,7 +120,7 @@ meets_one : (ms set : List Bool) (g : ℕ) → length ms ≡ length set → not 
 meets_one ms set zero e = refl
 meets_one ms set (suc i) e = meets_put ms set i e
 
-pub meets : (gs : List ℕ) (set : List Bool) → length set ≡ 20 → not (empty (both (marks gs) set)) ≡ any gs (has set)
+pub meets : (gs : List ℕ) (set : List Bool) → length set ≡ 20 → not (empty (both (marks gs) set)) ≡ list_any (has set) gs
 meets [] set e = ap not (meets_nothing set)
 meets (g ∷ gs) set e =
     ap (λ (x : List Bool). not (empty (both x set))) (marks_cons g gs)

@@ -2,7 +2,8 @@
 --   laters, held_back   the flows that a flow must precede, and whether one of them is above it
 --   with_pairs          a rule with such pairs
 --   add_reply           what adding a pair answers
-use Rattle.std.specs.Prelude.{ℕ, zero, suc, Bool, false, cond, not, ◌&&◌, ◌||◌, List, [], ◌∷◌, length, None, Ok, Err, Result, ◌==◌, nat_lt}
+use Rattle.std.specs.Prelude.{ℕ, zero, suc, Bool, cond, not, ◌&&◌, List, [], ◌∷◌, length, None, Ok, Err, Result, ◌==◌, nat_lt}
+use Rattle.std.specs.List.{list_any}
 use Rattle.chip.specs.declared.refusal.Refusal.{Refusal}
 use Rattle.chip.specs.declared.refusal.Refusal.TheVariants.{PairUnknown, TooManyPairs}
 use Rattle.rule.specs.Lists.{is_flow, among, marks, has}
@@ -14,14 +15,9 @@ abbrev pub laters : List Pair → ℕ → List ℕ
 laters [] f = []
 laters (p ∷ ps) f = cond (p.first == f) (p.later ∷ laters ps f) (laters ps f)
 
--- whether one of some flows passes a test
-abbrev pub any : List ℕ → (ℕ → Bool) → Bool
-any [] test = false
-any (g ∷ gs) test = test g || any gs test
-
 -- whether f is the first flow of a pair whose later flow is above it
 abbrev pub held_back : List Pair → ℕ → (ℕ → Bool) → Bool
-held_back ps f above = any (laters ps f) above
+held_back ps f above = list_any above (laters ps f)
 
 -- a rule whose flows get nothing where a pair holds them back; everything else comes from below
 abbrev pub with_pairs : List Pair → Meaning → Meaning

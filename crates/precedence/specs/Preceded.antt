@@ -1,5 +1,6 @@
 -- The precedence layer keeps the laws of any rule below. Assumes nothing.
 use Rattle.std.specs.Prelude.{◌≡◌, ℕ, ◌+◌, ◌<◌, ◌≤◌, Bool, true, false, cond, ◌&&◌, ◌⊎◌, List, [], ◌∷◌, ◌++◌, length, take, is_some, Some, None, Ok, Option, Result, ◌==◌, slice_index, refl}
+use Rattle.std.specs.List.{list_any}
 use Rattle.std.proofs.Common.{sym, ap, ap₂, ◌∙◌, inl, inr, ⊎_elim, arith}
 use Rattle.std.proofs.lemmas.Bool.{or_parts, or_from, or_cases, or_left, or_right, both_ways, cond_both, cond-true, cond-false, cases_lt}
 use Rattle.std.proofs.lemmas.Bool.Decides.{nat_tests}
@@ -12,23 +13,23 @@ use Rattle.rule.specs.Lists.Struck.{none, kept, out}
 use Rattle.rule.specs.Meaning.{Meaning, PassesUnder, InTime, NoLater, leading}
 use Rattle.rule.proofs.Distinct.{distinct_parts, flow_range, has_distinct, proper_taken}
 use Rattle.rule.proofs.Told.{Telling, Sound, telling_more, telling_ends, telling_all, all_told}
-use Rattle.rule.proofs.Below.{Below, below_at, below_most, below_stops}
+use Rattle.rule.proofs.Below.{Below, Beside, below_at, below_most, below_stops}
 use Rattle.precedence.specs.declared.pair.Pair.{Pair}
-use Rattle.precedence.specs.Pairs.{any, laters, held_back, with_pairs}
+use Rattle.precedence.specs.Pairs.{laters, held_back, with_pairs}
 
 -- a test that holds of no more flows than another
-any_fewer : (gs : List ℕ) (test fewer : ℕ → Bool) → ((g : ℕ) → fewer g ≡ true → test g ≡ true) → any gs test ≡ false → any gs fewer ≡ false
+any_fewer : (gs : List ℕ) (test fewer : ℕ → Bool) → ((g : ℕ) → fewer g ≡ true → test g ≡ true) → list_any test gs ≡ false → list_any fewer gs ≡ false
 any_fewer [] test fewer h e = refl
 any_fewer (g ∷ gs) test fewer h e =
-    let p = or_parts (test g) (any gs test) e in
-    or_from (fewer g) (any gs fewer) (still (fewer g) refl p.0) (any_fewer gs test fewer h p.1)
+    let p = or_parts (test g) (list_any test gs) e in
+    or_from (fewer g) (list_any fewer gs) (still (fewer g) refl p.0) (any_fewer gs test fewer h p.1)
   where
     still : (b : Bool) → fewer g ≡ b → test g ≡ false → fewer g ≡ false
     still true q n = absurd (both_ways (test g) n (h g q))
     still false q n = q
 
 -- two tests that agree
-pub any_same : (gs : List ℕ) (test same : ℕ → Bool) → ((g : ℕ) → test g ≡ same g) → any gs test ≡ any gs same
+pub any_same : (gs : List ℕ) (test same : ℕ → Bool) → ((g : ℕ) → test g ≡ same g) → list_any test gs ≡ list_any same gs
 any_same [] test same h = refl
 any_same (g ∷ gs) test same h = let p = h g in let q = any_same gs test same h in cc
 
@@ -104,32 +105,32 @@ module _ (ps : List Pair) (m : Meaning) (l : Lawful m) (f : ℕ) (above : List �
       each (inl n) true p = let k = sym (held_told p) ∙ n in rw (p, k)
       each (inr n) true p = absurd (both_ways (proper m.flows f above) n p)
 
--- the bounds of a list, each from the bound below
-module _ (ps : List Pair) (m : Meaning) (list : List ℕ) (b : Bounds) (s : Below m list b) (i : ℕ) (told : Bounds) (so_far : Telling (with_pairs ps m) list i told) where
+-- the bounds of a list, each from the bound below: number i of the list comes next
+module _ (ps : List Pair) (m : Meaning) (list bounds : List ℕ) (s : Below m list bounds) (i : ℕ) (told : Bounds) (so_far : Telling (with_pairs ps m) list i told) where
   asked_above : Sound (with_pairs ps m) list
   asked_above = record { laws = pairs_lawful ps m s.asked.laws; once = s.asked.once }
 
-  inside : i < b.count → i < length list
-  inside h = omega (arith, (below_most m list b s).0)
+  -- the answer for flow f with the bound r below, by the test of the set above it
+  module _ (f r : ℕ) (at : Beside list bounds i f r) (set : List Bool) (e : set ≡ marks (take i list)) (held : Bool) (test : held ≡ (is_flow 20 f && held_back ps f (has set))) where
+    inside : i < length list
+    inside = omega (arith, at.more, (below_most m list bounds s).0)
 
-  -- the answer for the next flow, by the test of the set above it
-  module _ (set : List Bool) (e : set ≡ marks (take i list)) (held : Bool) (test : held ≡ (is_flow 20 (slice_index list i) && held_back ps (slice_index list i) (has set))) (h : i < b.count) where
-    at_flow : (o : Option ℕ) → cond held None (Some (slice_index b.ticks i)) ≡ o → (with_pairs ps m).bound (slice_index list i) (take i list) ≡ o
+    at_flow : (o : Option ℕ) → cond held None (Some r) ≡ o → (with_pairs ps m).bound (slice_index list i) (take i list) ≡ o
     at_flow o q =
         ap₂ (λ (x : Bool) (y : Option ℕ). cond x None y)
-        (sym (held_told ps m s.asked.laws (slice_index list i) (take i list) set e held test (proper_taken m.flows list i (inside h) s.asked.once)))
-        (below_at m list b s i h)
+        (sym (held_told ps m s.asked.laws (slice_index list i) (take i list) set e held (test ∙ ap (λ (g : ℕ). is_flow 20 g && held_back ps g (has set)) at.flow) (proper_taken m.flows list i inside s.asked.once)))
+        (below_at m list bounds s i f r at)
         ∙ q
 
-    pub pairs_more : held ≡ false → Telling (with_pairs ps m) list (i + 1) (one_more told (slice_index b.ticks i))
+    pub pairs_more : held ≡ false → Telling (with_pairs ps m) list (i + 1) (one_more told r)
     pairs_more n =
-        telling_more (with_pairs ps m) list i told so_far (slice_index b.ticks i) (inside h) (omega (arith, (below_most m list b s).1)) (at_flow (Some (slice_index b.ticks i)) (cond-false held None (Some (slice_index b.ticks i)) n))
+        telling_more (with_pairs ps m) list i told so_far r inside (omega (arith, at.more, (below_most m list bounds s).1)) (at_flow (Some r) (cond-false held None (Some r) n))
 
     pub pairs_end : held ≡ true → Ok told ≡ asked_bounds (with_pairs ps m) list
     pairs_end t =
-        all_told (with_pairs ps m) list asked_above told (telling_ends (with_pairs ps m) list i told so_far (inside h) (at_flow None (cond-true held None (Some (slice_index b.ticks i)) t)))
+        all_told (with_pairs ps m) list asked_above told (telling_ends (with_pairs ps m) list i told so_far inside (at_flow None (cond-true held None (Some r) t)))
 
-  pub pairs_all : i ≡ b.count → Ok told ≡ asked_bounds (with_pairs ps m) list
+  pub pairs_all : i ≡ length bounds → Ok told ≡ asked_bounds (with_pairs ps m) list
   pairs_all e = all_told (with_pairs ps m) list asked_above told (⊎_elim ends all (cases_lt i (length list)))
     where
       nothing : (x : Bool) → cond {A = Option ℕ} x None None ≡ None
@@ -139,7 +140,7 @@ module _ (ps : List Pair) (m : Meaning) (list : List ℕ) (b : Bounds) (s : Belo
       ends : i < length list → told ≡ table (leading (with_pairs ps m) [] list)
       ends h =
           telling_ends (with_pairs ps m) list i told so_far h
-          (ap (λ (o : Option ℕ). cond (held_back ps (slice_index list i) (λ g. among g (take i list))) None o) (below_stops m list b s i e h) ∙ nothing _)
+          (ap (λ (o : Option ℕ). cond (held_back ps (slice_index list i) (λ g. among g (take i list))) None o) (below_stops m list bounds s i e h) ∙ nothing _)
 
       all : length list ≤ i → told ≡ table (leading (with_pairs ps m) [] list)
       all h = telling_all (with_pairs ps m) list i told so_far h

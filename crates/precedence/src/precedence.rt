@@ -1,7 +1,9 @@
 // The precedence layer: a rule that gives nothing to the first flow of a pair under the later one.
-ghost use Rattle.std.specs.Prelude.{◌≡◌, []};
+ghost use Rattle.std.specs.Prelude.{◌≡◌, ◌&&◌, []};
+ghost use Rattle.rule.specs.FlowSets.{marks_of};
+ghost use Rattle.rule.specs.Lists.{has, proper_set};
 ghost use Rattle.precedence.specs.Held.{pairs_of, after_add};
-ghost use Rattle.precedence.specs.Pairs.{add_reply, with_pairs};
+ghost use Rattle.precedence.specs.Pairs.{add_reply, held_back, with_pairs};
 ghost use Rattle.precedence.specs.Preceded.{pairs_lawful};
 
 use crate::pair::Pair;
@@ -46,6 +48,13 @@ impl<R: Rule> Precedence<R> {
         let flows = self.rule.flows();
         self.pairs.add(flows, Pair { first, later })
     }
+
+    // Whether flow f gets nothing under a set: the question is proper, and a flow that f must precede is in the set.
+    fn keeps_back(&self, f: u8, others: FlowSet) -> bool
+        ensures { result ≡ (proper_set (R.Rule.meaning self.now.rule).flows f (marks_of others) && held_back (pairs_of self.now.pairs) f (has (marks_of others))) }
+    {
+        self.pairs.hold_back(f, others) && is_proper_set(self.rule.flows(), f, others)
+    }
 }
 
 impl<R: Rule> Rule for Precedence<R> {
@@ -66,6 +75,7 @@ impl<R: Rule> Rule for Precedence<R> {
     }
 
     fn bound(&self, f: u8, above: &[u8]) -> Result<Option<u32>, Refusal> {
+        // Not `keeps_back`: a set does not show that a flow stands twice in the list.
         if self.pairs.hold_back(f, FlowSet::of(above)) && is_proper(self.rule.flows(), f, above) {
             return Ok(None);
         }
@@ -73,14 +83,14 @@ impl<R: Rule> Rule for Precedence<R> {
     }
 
     fn floor(&self, f: u8, others: FlowSet) -> Result<Option<u32>, Refusal> {
-        if self.pairs.hold_back(f, others) && is_proper_set(self.rule.flows(), f, others) {
+        if self.keeps_back(f, others) {
             return Ok(None);
         }
         self.rule.floor(f, others)
     }
 
     fn ceiling(&self, f: u8, others: FlowSet) -> Result<Option<u32>, Refusal> {
-        if self.pairs.hold_back(f, others) && is_proper_set(self.rule.flows(), f, others) {
+        if self.keeps_back(f, others) {
             return Ok(None);
         }
         self.rule.ceiling(f, others)
@@ -90,13 +100,12 @@ impl<R: Rule> Rule for Precedence<R> {
         let below = self.rule.bounds(list)?;
         let mut told = Bounds::none();
         let mut above = FlowSet::none();
-        for i in 0..below.count as usize {
-            let f = list[i];
-            if self.pairs.hold_back(f, above) {
+        for (f, ticks) in list.iter().zip(below.as_slice()) {
+            if self.pairs.hold_back(*f, above) {
                 return Ok(told);
             }
-            told.push(below.ticks[i]);
-            above = above.with(f);
+            told.push(*ticks);
+            above = above.with(*f);
         }
         Ok(told)
     }

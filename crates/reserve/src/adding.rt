@@ -8,9 +8,7 @@ use chip::Ticks;
 pub(crate) fn added(reserve: Ticks, below: Option<u32>, deadline: u32) -> Option<u32>
     ensures { result ≡ reserved reserve.count deadline below }
 {
-    let ticks = below?.checked_add(reserve.count())?;
-    if ticks > deadline {
-        return None;
-    }
-    Some(ticks)
+    below?
+        .checked_add(reserve.count())
+        .filter(|ticks| *ticks <= deadline)
 }

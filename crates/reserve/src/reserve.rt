@@ -1,6 +1,8 @@
 // The reserve layer: a rule whose bounds, floors and ceilings are those of the rule below with ticks added.
 ghost use Rattle.std.specs.Prelude.{◌≡◌};
-ghost use Rattle.reserve.specs.Reserves.{with_reserve};
+ghost use Rattle.rule.specs.Lists.{is_flow};
+ghost use Rattle.rule.specs.Meaning.{answer};
+ghost use Rattle.reserve.specs.Reserves.{reserved, with_reserve};
 ghost use Rattle.reserve.specs.Reserved.{reserve_lawful};
 
 use crate::adding::added;
@@ -30,6 +32,16 @@ impl<R> Reserve<R> {
     }
 }
 
+impl<R: Rule> Reserve<R> {
+    // The answer below for flow f, with the reserve added.
+    fn raise(&self, f: u8, below: Option<u32>) -> Result<Option<u32>, Refusal>
+        ensures { result ≡ answer (is_flow (R.Rule.meaning self.now.rule).flows f) (reserved self.now.ticks.count ((R.Rule.meaning self.now.rule).deadline f) below) }
+    {
+        let deadline = self.rule.deadline(f)?;
+        Ok(added(self.ticks, below, deadline))
+    }
+}
+
 impl<R: Rule> Rule for Reserve<R> {
     ghost meaning = { λ s. with_reserve s.ticks.count (R.Rule.meaning s.rule) };
 
@@ -49,28 +61,24 @@ impl<R: Rule> Rule for Reserve<R> {
 
     fn bound(&self, f: u8, above: &[u8]) -> Result<Option<u32>, Refusal> {
         let below = self.rule.bound(f, above)?;
-        let deadline = self.rule.deadline(f)?;
-        Ok(added(self.ticks, below, deadline))
+        self.raise(f, below)
     }
 
     fn floor(&self, f: u8, others: FlowSet) -> Result<Option<u32>, Refusal> {
         let below = self.rule.floor(f, others)?;
-        let deadline = self.rule.deadline(f)?;
-        Ok(added(self.ticks, below, deadline))
+        self.raise(f, below)
     }
 
     fn ceiling(&self, f: u8, others: FlowSet) -> Result<Option<u32>, Refusal> {
         let below = self.rule.ceiling(f, others)?;
-        let deadline = self.rule.deadline(f)?;
-        Ok(added(self.ticks, below, deadline))
+        self.raise(f, below)
     }
 
     fn bounds(&self, list: &[u8]) -> Result<Bounds, Refusal> {
         let below = self.rule.bounds(list)?;
         let mut told = Bounds::none();
-        for i in 0..below.count as usize {
-            let deadline = self.rule.deadline(list[i])?;
-            match added(self.ticks, Some(below.ticks[i]), deadline) {
+        for (f, ticks) in list.iter().zip(below.as_slice()) {
+            match self.raise(*f, Some(*ticks))? {
                 Some(ticks) => told.push(ticks),
                 None => return Ok(told),
             }

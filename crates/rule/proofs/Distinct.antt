@@ -1,16 +1,23 @@
 -- Lists of flows without repeats: their counts, their parts and their length. Assumes nothing.
+--   any_among        whether a flow stands in a list, as the library tells it
 --   left_to_test     a list that is tested flow by flow, from its front
 --   distinct_times   a list without repeats holds each flow at most once, and nothing else; times_distinct the other way
 --   proper_taken     each flow of such a list may be asked under those before it
 --   distinct_short   such a list has at most 20 entries
 use Rattle.std.proofs.Common.{◌≡◌, ℕ, zero, suc, ◌<◌, ◌≤◌, Bool, true, false, cond, not, ◌&&◌, ◌||◌, eqb, leb, ◌⊎◌, List, [], ◌∷◌, ◌++◌, length, get_or, take, drop, set, sym, refl, ap, ◌∙◌, inl, inr, ⊎_elim, arith}
 use lib.ListN as ListN
+use Rattle.std.specs.List.{list_any}
 use Rattle.std.proofs.lemmas.Bool.Decides.{nat_tests}
 use Rattle.std.proofs.lemmas.Bool.{cases_eq, cases_lt, cases_Bool, both_ways, and_parts, not-true, leb-true}
 use Rattle.std.proofs.lemmas.List.{get_or-set_same, get_or-set_other, get_or_past, take-append-drop, drop_more}
 use Rattle.rule.specs.Lists.{is_flow, among, times, distinct, proper, marks, has}
 use Rattle.rule.specs.FlowSets.{put, size}
 use Rattle.rule.proofs.Members.{among_times, times_append, marks_length, marks_cons, has_marks}
+
+-- a list is searched for g as any list is for an element
+pub any_among : (g : ℕ) (gs : List ℕ) → list_any (λ h. eqb h g) gs ≡ among g gs
+any_among g [] = refl
+any_among g (h ∷ hs) = let t = any_among g hs in grind (arith, nat_tests)
 
 -- no flow of a list is among those seen
 abbrev pub apart : List ℕ → List ℕ → Bool

@@ -5,3 +5,4 @@ pub mod Members
 pub mod Distinct
 pub mod Told
 pub mod Below
+pub mod Beside

@@ -1,11 +1,13 @@
 -- Lists of flows and the sets of their members: the laws that a rule writer wants. Assumes nothing.
 --   has_marks           a flow is in the set of a list exactly if it stands in the list
---   marks_cons, -push, -more   one more flow in a list is one more flow in its set
+--   marks_cons, -push, -more, -with   one more flow in a list is one more flow in its set
 --   marks_same, -times  lists with the same members, or the same counts, have the same set
 --   among_members       the members of a set are the flows in it
 --   marks_members       a set is the set of its members
+--   first_range         the first member of a set of 20 marks is a flow of 1 to 20
+--   size_most           a set has no more flows than marks
 --   fold_members        going through the members of a set is going through the numbers with a test
-use Rattle.std.proofs.Common.{◌≡◌, ℕ, zero, suc, ◌+◌, ◌<◌, ◌≤◌, Bool, true, false, cond, ltb, List, [], ◌∷◌, ◌++◌, length, get_or, take, fold, sym, refl, ap, ◌∙◌, add-zero, arith}
+use Rattle.std.proofs.Common.{◌≡◌, ℕ, zero, suc, ◌+◌, ◌<◌, ◌≤◌, Bool, true, false, cond, ltb, List, [], ◌∷◌, ◌++◌, length, get_or, take, fold, sym, refl, ap, ap₂, ◌∙◌, add-zero, arith}
 use lib.ListN as ListN
 use Rattle.std.proofs.lemmas.List.{take_more}
 use Rattle.std.proofs.lemmas.Bool.Decides.{nat_tests}
@@ -88,6 +90,9 @@ marks_push g gs =
 pub marks_more : (list : List ℕ) (i : ℕ) → i < length list → put (marks (take i list)) (get_or list i 0) true ≡ marks (take (i + 1) list)
 marks_more list i h = sym (ap marks (take_more list i 0 h) ∙ marks_push (get_or list i 0) (take i list))
 
+pub marks_with : (set : List Bool) (list : List ℕ) (i g : ℕ) → set ≡ marks (take i list) → g ≡ get_or list i 0 → i < length list → put set g true ≡ marks (take (i + 1) list)
+marks_with set list i g e q h = ap₂ (λ (s : List Bool) (x : ℕ). put s x true) e q ∙ marks_more list i h
+
 -- a flow stands among the members of a set once if it is in the set, and else not
 members_before : (g i : ℕ) (set : List Bool) → g < i → times g (members_from i set) ≡ 0
 members_before g i [] h = refl
@@ -118,6 +123,21 @@ pub size_members : (i : ℕ) (set : List Bool) → length (members_from i set) �
 size_members i [] = refl
 size_members i (true ∷ set) = let t = size_members (suc i) set in omega arith
 size_members i (false ∷ set) = let t = size_members (suc i) set in omega arith
+
+-- the first member is one of the flows that have a mark
+first_from : (i : ℕ) (set : List Bool) (g : ℕ) (gs : List ℕ) → members_from i set ≡ g ∷ gs → (i ≤ g) × (g < i + length set)
+first_from i [] g gs e = let z : ◌≡◌ {A = ℕ} 0 1 = cc in absurd (omega arith)
+first_from i (true ∷ set) g gs e = let h : g ≡ i = cc in (omega arith, omega arith)
+first_from i (false ∷ set) g gs e = let t = first_from (suc i) set g gs e in (omega arith, omega arith)
+
+pub first_range : (set : List Bool) (g : ℕ) (gs : List ℕ) → length set ≡ 20 → members set ≡ g ∷ gs → (1 ≤ g) × (g ≤ 20)
+first_range set g gs n e = let t = first_from 1 set g gs e in (omega arith, omega arith)
+
+-- a set has no more flows than marks
+pub size_most : (set : List Bool) → size set ≤ length set
+size_most [] = omega arith
+size_most (true ∷ set) = let t = size_most set in omega arith
+size_most (false ∷ set) = let t = size_most set in omega arith
 
 marks_from_members : (set : List Bool) (i : ℕ) (gs : List ℕ) → ((j : ℕ) → among (i + j) gs ≡ get_or set j false) → marks_from (length set) i gs ≡ set
 marks_from_members [] i gs h = refl

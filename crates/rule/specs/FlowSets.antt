@@ -3,10 +3,12 @@
 --   put, first_flows       a set with one flow put in or out; the flows up to a number
 --   both, less             what two sets have in common, and what the first has beyond the second
 --   empty, size            whether, and how many, flows are in a set
---   members, Popped        the flows of a set, smallest first, and the smallest taken out
+--   members, flows_left    the flows of a set, smallest first, and those still to come of them
+--   Popped                 the smallest flow taken out
 use Rattle.std.specs.Prelude.{◌≡◌, ℕ, zero, suc, ◌+◌, ◌/◌, ◌%◌, ◌^◌, ◌≤◌, Bool, true, false, cond, not, ◌&&◌, List, [], ◌∷◌, Some, None, Option, ◌==◌, nat_lt}
 use Rattle.std.proofs.Math.ListN as ListN
 use Rattle.rule.specs.declared.flow_set.FlowSet.{FlowSet}
+use Rattle.rule.specs.declared.flow_set.flows.Flows.{Flows}
 
 -- the lowest k binary digits of a number, lowest first
 unfoldable pub digits : ℕ → ℕ → List Bool
@@ -67,6 +69,10 @@ members_from i (mark ∷ set) = cond mark (i ∷ members_from (suc i) set) (memb
 -- the flows of a set, smallest first
 abbrev pub members : List Bool → List ℕ
 members set = members_from 1 set
+
+-- the flows that are still to come
+abbrev pub flows_left : Flows → List ℕ
+flows_left flows = members (marks_of flows.left)
 
 -- the smallest flow of a set is taken out of it, if the set has one
 abbrev pub Popped : Option ℕ → List Bool → List Bool → Type 0

@@ -1,11 +1,12 @@
 // The bounds of a list of flows, told in one go.
-ghost use Rattle.std.specs.Prelude.{◌≡◌, ◌≤◌, [], length, take};
+ghost use Rattle.std.specs.Prelude.{◌≡◌, [], take};
 ghost use Rattle.rule.specs.Questions.{table, one_more};
 
 use crate::flow_set::MOST_FLOWS;
 
 // How many leading flows of the list have a bound, and these bounds in ticks, padded with 0 to 20 entries.
-#[derive(Clone, Copy)]
+// A count beside the array: these two fields are what the caller of any rule reads, Copy and of fixed size.
+#[derive(Clone, Copy, PartialEq, Eq, Debug)]
 pub struct Bounds {
     pub count: u8,
     pub ticks: [u32; 20],
@@ -27,10 +28,7 @@ impl Bounds {
         ensures { result ≡ one_more self ticks }
     {
         let mut told = self;
-        if told.count < MOST_FLOWS {
-            told.ticks[told.count as usize] = ticks;
-            told.count += 1;
-        }
+        told.push(ticks);
         told
     }
 
@@ -43,12 +41,11 @@ impl Bounds {
             self.count += 1;
         }
     }
-}
 
-// The first i flows of a list.
-pub(crate) fn leading(list: &[u8], i: usize) -> &[u8]
-    requires { i ≤ length list.now }
-    ensures { result.now ≡ take i list.now }
-{
-    &list[0..i]
+    // The bounds alone, without the padding.
+    pub fn as_slice(&self) -> &[u32]
+        ensures { result.now ≡ take self.now.count self.now.ticks }
+    {
+        &self.ticks[..self.count.min(MOST_FLOWS) as usize]
+    }
 }

@@ -7,6 +7,6 @@ pub mod proper;
 pub mod questions;
 
 pub use bounds::Bounds;
-pub use flow_set::FlowSet;
+pub use flow_set::{FlowSet, Flows};
 pub use proper::{is_distinct, is_flow, is_proper, is_proper_set};
 pub use questions::Rule;

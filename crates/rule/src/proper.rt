@@ -1,6 +1,6 @@
 // Whether a question may be asked: every number in it is a flow of the rule, and none stands twice.
 ghost use Rattle.std.specs.Prelude.{◌≡◌};
-ghost use Rattle.rule.specs.Lists.{is_flow, among, distinct, proper, proper_set};
+ghost use Rattle.rule.specs.Lists.{is_flow, distinct, proper, proper_set};
 ghost use Rattle.rule.specs.FlowSets.{marks_of};
 
 use crate::flow_set::FlowSet;
@@ -10,18 +10,6 @@ pub fn is_flow(flows: u8, f: u8) -> bool
     ensures { result ≡ is_flow flows f }
 {
     1 <= f && f <= flows
-}
-
-// Whether f stands in the list.
-fn is_among(f: u8, list: &[u8]) -> bool
-    ensures { result ≡ among f list.now }
-{
-    for g in list {
-        if f == *g {
-            return true;
-        }
-    }
-    false
 }
 
 // Whether the list holds only flows of 1 to `flows`, and none twice.
@@ -42,7 +30,7 @@ pub fn is_distinct(flows: u8, list: &[u8]) -> bool
 pub fn is_proper(flows: u8, f: u8, above: &[u8]) -> bool
     ensures { result ≡ proper flows f above.now }
 {
-    is_flow(flows, f) && !is_among(f, above) && is_distinct(flows, above)
+    is_flow(flows, f) && !above.contains(&f) && is_distinct(flows, above)
 }
 
 // Whether the floor or ceiling of f under the set `others` may be asked.

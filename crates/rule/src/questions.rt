@@ -5,7 +5,7 @@ ghost use Rattle.rule.specs.Laws.{Lawful};
 ghost use Rattle.rule.specs.Meaning.{Meaning};
 ghost use Rattle.rule.specs.Questions.{asked_deadline, asked_label, asked_bound, asked_floor, asked_ceiling, asked_bounds};
 
-use crate::bounds::{Bounds, leading};
+use crate::bounds::Bounds;
 use crate::flow_set::FlowSet;
 use crate::proper::is_distinct;
 use chip::Refusal;
@@ -49,8 +49,8 @@ pub trait Rule {
             return Err(Refusal::ImproperQuestion);
         }
         let mut told = Bounds::none();
-        for i in 0..list.len() {
-            match self.bound(list[i], leading(list, i))? {
+        for (i, f) in list.iter().enumerate() {
+            match self.bound(*f, &list[..i])? {
                 Some(ticks) => told.push(ticks),
                 None => return Ok(told),
             }

@@ -12,8 +12,7 @@ use Rattle.rule.specs.Lists.{is_flow}
 use Rattle.rule.specs.Meaning.{Meaning, NoLater}
 use Rattle.runs.specs.declared.calls.Call.{Call}
 use Rattle.runs.specs.declared.calls.Call.TheVariants as C
-use Rattle.runs.specs.declared.calls.Reply.{Reply}
-use Rattle.runs.specs.declared.calls.Reply.TheVariants as A
+use Rattle.runs.specs.declared.calls.Answer.TheVariants as A
 use Rattle.search.specs.declared.tables.Walk.{Walk}
 use Rattle.search.specs.declared.tables.Outcome.TheVariants.{NoOrder}
 use Rattle.search.specs.Candidates.{time_of}
@@ -22,7 +21,7 @@ use Rattle.walk.specs.WalkLaw.{WalkLaw, NoOrderPasses}
 use Rattle.search.specs.Tables.{standing}
 use Rattle.search.specs.Searches.{Walked}
 use Rattle.search.specs.Answers.{outcome_of, advance_reply, level_at}
-use Rattle.runs.specs.Runs.{Rival, advance_told, reply_to, state_after, buffer_after, placings_of, accepted, allowed, state_at, call_at, reply_at, buffer_at}
+use Rattle.runs.specs.Runs.{Rival, Reply, replied, reply_to, state_after, buffer_after, placings_of, accepted, allowed, state_at, call_at, reply_at, buffer_at}
 use Rattle.runs.specs.Promise.{Made, ToldLevel, Promise, made_of, Ran}
 use Rattle.search.proofs.Advanced.{steps_stay}
 use Rattle.walk.proofs.Lawfully.{walk_law}
@@ -35,17 +34,17 @@ allowed_push (d ∷ cs) [] c r e = absurd (omega arith)
 allowed_push (d ∷ cs) (s ∷ rs) c r e = let t = allowed_push cs rs c r (omega arith) in omega arith
 
 accepted_none : (r : Reply) → accepted r 0 ≡ 0
-accepted_none A.Advanced = refl
-accepted_none (A.Outcome o) = refl
-accepted_none (A.Count n) = refl
-accepted_none (A.Level l) = refl
-accepted_none (A.Plan n) = refl
-accepted_none (A.Same b) = refl
-accepted_none (A.Refused e) = refl
+accepted_none (Ok A.Advanced) = refl
+accepted_none (Ok (A.Outcome o)) = refl
+accepted_none (Ok (A.Count n)) = refl
+accepted_none (Ok (A.Level l)) = refl
+accepted_none (Ok (A.Plan n)) = refl
+accepted_none (Ok (A.Same b)) = refl
+accepted_none (Err e) = refl
 
 -- a call moves the walk by the placings that it is allowed
 module _ (m : Meaning) (law : WalkLaw m) (other : Option Rival) (room k : ℕ) where
-  advance_moves : (placings : ℕ) (none over : Bool) → eqb placings 0 ≡ none → ended (after m k) ≡ over → steps m placings (after m k) ≡ after m (k + accepted (advance_told (cond none (Err AdvanceOfZero) (cond over (Err AdvanceAfterEnd) (Ok tt)))) placings)
+  advance_moves : (placings : ℕ) (none over : Bool) → eqb placings 0 ≡ none → ended (after m k) ≡ over → steps m placings (after m k) ≡ after m (k + accepted (replied {T = Unit {0}} (λ done. A.Advanced) (cond none (Err AdvanceOfZero) (cond over (Err AdvanceAfterEnd) (Ok tt)))) placings)
   advance_moves placings true over e q = ap (λ (n : ℕ). steps m n (after m k)) (eqb-true placings 0 e) ∙ ap (after m) (sym (add-zero k))
   advance_moves placings false true e q = steps_stay m placings (after m k) q ∙ ap (after m) (sym (add-zero k))
   advance_moves placings false false e q = law.onward k placings
@@ -121,11 +120,11 @@ module _ (m : Meaning) (laws : Lawful m) (other : Option Rival) (calls : List Ca
 
       here : j ≡ i → reply_at later j ≡ reply_to m other (length buffer) (state_at m calls later j) (call_at calls j)
       here e =
-          ap (reply_at later) e ∙ get_or-set_same replies i r A.Advanced in_replies ∙ reply_is
+          ap (reply_at later) e ∙ get_or-set_same replies i r (Ok A.Advanced) in_replies ∙ reply_is
           ∙ ap (λ (n : ℕ). reply_to m other (length buffer) (state_at m calls replies n) (call_at calls n)) (sym e) ∙ at_state
 
       before : (j ≡ i → ⊥) → reply_at later j ≡ reply_to m other (length buffer) (state_at m calls later j) (call_at calls j)
-      before ne = get_or-set_other replies i j r A.Advanced ne ∙ s.answers j (omega arith) ∙ at_state
+      before ne = get_or-set_other replies i j r (Ok A.Advanced) ne ∙ s.answers j (omega arith) ∙ at_state
 
   next_rest : drop (i + 1) later ≡ drop (i + 1) base
   next_rest = drop-set-lt (i + 1) replies i r (omega arith) ∙ sym (drop-drop 1 i replies) ∙ ap (drop 1) s.rest ∙ drop-drop 1 i base
@@ -178,7 +177,7 @@ module _ (m : Meaning) (law : WalkLaw m) where
   le_lt : {a b c : ℕ} → a ≤ b → b < c → a < c
   le_lt p q = omega arith
 
-  accepts_open : (s : State) (placings : ℕ) → ended s ≡ false → 1 ≤ placings → advance_told (advance_reply s placings) ≡ A.Advanced
+  accepts_open : (s : State) (placings : ℕ) → ended s ≡ false → 1 ≤ placings → replied (λ done. A.Advanced) (advance_reply s placings) ≡ Ok A.Advanced
   accepts_open s placings e h = rw (ne_eqb placings 0 (λ (z : placings ≡ 0). let y = h in omega arith), e) refl
 
   pub promised : (other : Option Rival) (calls : List Call) (replies : List Reply) (room made : ℕ) (w : Walk) → ((i : ℕ) → i < made → reply_at replies i ≡ reply_to m other room (state_at m calls replies i) (call_at calls i)) → standing w ≡ state_at m calls replies made → Promise m other calls replies room made w

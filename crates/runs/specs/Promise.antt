@@ -8,8 +8,7 @@ use Rattle.rule.specs.Lists.{Order}
 use Rattle.rule.specs.Meaning.{Meaning}
 use Rattle.runs.specs.declared.calls.Call.{Call}
 use Rattle.runs.specs.declared.calls.Call.TheVariants.{Advance}
-use Rattle.runs.specs.declared.calls.Reply.{Reply}
-use Rattle.runs.specs.declared.calls.Reply.TheVariants.{Advanced}
+use Rattle.runs.specs.declared.calls.Answer.TheVariants.{Advanced}
 use Rattle.search.specs.declared.tables.Walk.{Walk}
 use Rattle.search.specs.declared.tables.Outcome.TheVariants.{NoOrder}
 use Rattle.walk.specs.Walk.{found, after, ended, count_of}
@@ -17,7 +16,7 @@ use Rattle.walk.specs.WalkLaw.{most_placings, NoOrderPasses}
 use Rattle.search.specs.Tables.{standing}
 use Rattle.search.specs.Searches.{Walked}
 use Rattle.search.specs.Answers.{outcome_of, level_reply}
-use Rattle.runs.specs.Runs.{Rival, reply_to, state_after, buffer_after, allowed, state_at, call_at, reply_at, buffer_at}
+use Rattle.runs.specs.Runs.{Rival, Reply, reply_to, state_after, buffer_after, allowed, state_at, call_at, reply_at, buffer_at}
 
 -- one call: its reply, and the walk and the buffer after it
 pub record Made (m : Meaning) (other : Option Rival) (call : Call) (before after : Walk) (buffer written : List ℕ) (reply : Reply) : Type 0 where
@@ -47,7 +46,7 @@ pub record Promise (m : Meaning) (other : Option Rival) (calls : List Call) (rep
   -- and the bound told there is the rule's own for that flow under the flows above it, no later than its deadline
   pub levels : (i count : ℕ) (order : List ℕ) → state_at m calls replies i ≡ found count order → (k : ℕ) → 1 ≤ k → k ≤ m.flows → ToldLevel m count order k
   -- every advance of at least 1 given while open is accepted
-  pub accepts : (i placings : ℕ) → i < made → ended (state_at m calls replies i) ≡ false → call_at calls i ≡ Advance placings → 1 ≤ placings → reply_at replies i ≡ Advanced
+  pub accepts : (i placings : ℕ) → i < made → ended (state_at m calls replies i) ≡ false → call_at calls i ≡ Advance placings → 1 ≤ placings → reply_at replies i ≡ Ok Advanced
   -- while open the count equals what the accepted advances allowed, added up; it is never more
   pub count_open : (i : ℕ) → ended (state_at m calls replies i) ≡ false → count_of (state_at m calls replies i) ≡ allowed (take i calls) (take i replies)
   pub count_most : (i : ℕ) → count_of (state_at m calls replies i) ≤ allowed (take i calls) (take i replies)

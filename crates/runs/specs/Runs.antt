@@ -1,6 +1,6 @@
 -- A run of calls on a search: what each is answered, and where the walk stands then. Assumes nothing.
 --   Rival             another search, to compare plans with
---   reply_to          the reply to a call, by where the walk stands
+--   Reply, reply_to   the reply to a call, by where the walk stands
 --   state_after, buffer_after    the walk and the plan's buffer after a call
 --   allowed           the placings that accepted advances allow together
 --   state_at, buffer_at          the walk and the buffer before a call of the run
@@ -10,31 +10,22 @@ use Rattle.chip.specs.declared.refusal.Refusal.TheVariants.{NoOutcome}
 use Rattle.rule.specs.Meaning.{Meaning}
 use Rattle.runs.specs.declared.calls.Call.{Call}
 use Rattle.runs.specs.declared.calls.Call.TheVariants as C
-use Rattle.runs.specs.declared.calls.Reply.{Reply}
-use Rattle.runs.specs.declared.calls.Reply.TheVariants as A
-use Rattle.search.specs.declared.searching.Level.{Level}
+use Rattle.runs.specs.declared.calls.Answer.{Answer}
+use Rattle.runs.specs.declared.calls.Answer.TheVariants as A
 use Rattle.search.specs.declared.searching.Search.{Search}
 use Rattle.walk.specs.Walk.{State, steps, after, count_of}
 use Rattle.search.specs.Answers.{outcome_of, advance_reply, level_reply}
 use Rattle.search.specs.Plans.{plan_reply, plan_after, same_reply}
 use Rattle.search.specs.Tables.{standing}
 
--- what an advance, a level, a plan and equality are answered
-abbrev pub advance_told : Result (Unit {0}) Refusal → Reply
-advance_told (Ok done) = A.Advanced
-advance_told (Err e) = A.Refused e
+-- the reply to a call: what it answers, or why it is refused
+abbrev pub Reply : Type 0
+Reply = Result Answer Refusal
 
-abbrev pub level_told : Result Level Refusal → Reply
-level_told (Ok level) = A.Level level
-level_told (Err e) = A.Refused e
-
-abbrev pub plan_told : Result ℕ Refusal → Reply
-plan_told (Ok bytes) = A.Plan bytes
-plan_told (Err e) = A.Refused e
-
-abbrev pub same_told : Result Bool Refusal → Reply
-same_told (Ok same) = A.Same same
-same_told (Err e) = A.Refused e
+-- the reply that tells what is answered
+abbrev pub replied : {T : Type 0} → (T → Answer) → Result T Refusal → Reply
+replied answer (Ok told) = Ok (answer told)
+replied answer (Err e) = Err e
 
 -- another search: what its rule means, and where its walk stands
 pub record Rival : Type 0 where
@@ -53,12 +44,12 @@ rival_reply m s (Some other) = same_reply m s other.meaning other.state
 
 -- the reply to a call where the walk stands at s, beside another search or none and a buffer with so much room
 abbrev pub reply_to : Meaning → Option Rival → ℕ → State → Call → Reply
-reply_to m other room s (C.Advance placings) = advance_told (advance_reply s placings)
-reply_to m other room s C.Outcome = A.Outcome (outcome_of s)
-reply_to m other room s C.Count = A.Count (count_of s)
-reply_to m other room s (C.Level k) = level_told (level_reply m s k)
-reply_to m other room s C.Plan = plan_told (plan_reply m s room)
-reply_to m other room s C.Same = same_told (rival_reply m s other)
+reply_to m other room s (C.Advance placings) = replied (λ done. A.Advanced) (advance_reply s placings)
+reply_to m other room s C.Outcome = Ok (A.Outcome (outcome_of s))
+reply_to m other room s C.Count = Ok (A.Count (count_of s))
+reply_to m other room s (C.Level k) = replied A.Level (level_reply m s k)
+reply_to m other room s C.Plan = replied A.Plan (plan_reply m s room)
+reply_to m other room s C.Same = replied A.Same (rival_reply m s other)
 
 -- the walk after a call: an advance makes its placings, and nothing else changes it
 abbrev pub state_after : Meaning → State → Call → State
@@ -88,13 +79,13 @@ placings_of C.Plan = 0
 placings_of C.Same = 0
 
 abbrev pub accepted : Reply → ℕ → ℕ
-accepted A.Advanced placings = placings
-accepted (A.Outcome o) placings = 0
-accepted (A.Count n) placings = 0
-accepted (A.Level l) placings = 0
-accepted (A.Plan n) placings = 0
-accepted (A.Same b) placings = 0
-accepted (A.Refused e) placings = 0
+accepted (Ok A.Advanced) placings = placings
+accepted (Ok (A.Outcome o)) placings = 0
+accepted (Ok (A.Count n)) placings = 0
+accepted (Ok (A.Level l)) placings = 0
+accepted (Ok (A.Plan n)) placings = 0
+accepted (Ok (A.Same b)) placings = 0
+accepted (Err e) placings = 0
 
 -- the placings that the accepted advances among calls allow together
 abbrev pub allowed : List Call → List Reply → ℕ
@@ -111,7 +102,7 @@ abbrev pub call_at : List Call → ℕ → Call
 call_at calls i = slice_index_or calls i (C.Advance 0)
 
 abbrev pub reply_at : List Reply → ℕ → Reply
-reply_at replies i = slice_index_or replies i A.Advanced
+reply_at replies i = slice_index_or replies i (Ok A.Advanced)
 
 -- the plan's buffer before call i of a run
 abbrev pub buffer_at : Meaning → List Call → List Reply → List ℕ → ℕ → List ℕ

@@ -6,5 +6,5 @@
 mod calls;
 mod running;
 
-pub use calls::{Call, Reply};
+pub use calls::{Answer, Call, Reply};
 pub use running::run;

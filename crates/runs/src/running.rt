@@ -6,7 +6,7 @@ ghost use Rattle.search.specs.Tables.{standing};
 ghost use Rattle.runs.specs.Promise.{Made, Promise, Ran, made_of};
 ghost use Rattle.runs.specs.Runs.{rival_of, rival_reply};
 
-use crate::calls::{Call, Reply, advance_told, level_told, plan_told, same_told};
+use crate::calls::{Answer, Call, Reply};
 use chip::Refusal;
 use rule::Rule;
 use search::Search;
@@ -15,10 +15,7 @@ use search::Search;
 fn same<R: Rule, Q: Rule>(search: &Search<R>, other: Option<&Search<Q>>) -> Result<bool, Refusal>
     ensures { result ≡ rival_reply (R.Rule.meaning search.now.rule) (standing search.now.walk) (rival_of Q.Rule.meaning (option_map (λ x. x.now) other.entry)) }
 {
-    match other {
-        Some(them) => search.same_plan(them),
-        None => Err(Refusal::NoOutcome),
-    }
+    search.same_plan(other.ok_or(Refusal::NoOutcome)?)
 }
 
 // Makes one call on a search: `other` is the search, if any, that plans are compared with, `plan` the buffer that they are
@@ -33,12 +30,12 @@ fn make<R: Rule, Q: Rule>(
     ensures made { Made (R.Rule.meaning search.old.rule) (rival_of Q.Rule.meaning (option_map (λ x. x.now) other.entry)) call search.old.walk search.new.walk plan.old plan.new result }
 {
     match call {
-        Call::Advance(placings) => advance_told(search.advance(placings)),
-        Call::Outcome => Reply::Outcome(search.outcome()),
-        Call::Count => Reply::Count(search.count()),
-        Call::Level(k) => level_told(search.level(k)),
-        Call::Plan => plan_told(search.write_plan(plan)),
-        Call::Same => same_told(same(search, other)),
+        Call::Advance(placings) => search.advance(placings).map(|()| Answer::Advanced),
+        Call::Outcome => Ok(Answer::Outcome(search.outcome())),
+        Call::Count => Ok(Answer::Count(search.count())),
+        Call::Level(k) => search.level(k).map(Answer::Level),
+        Call::Plan => search.write_plan(plan).map(Answer::Plan),
+        Call::Same => same(search, other).map(Answer::Same),
     }
 }
 
@@ -58,8 +55,9 @@ pub fn run<R: Rule, Q: Rule>(
 {
     let mut search = Search::open(rule);
     let made = calls.len().min(replies.len());
-    for i in 0..made {
-        replies[i] = make(&mut search, calls[i], other, plan);
+    // No `iter_mut().zip(calls)`: of the places it lends a proof knows no element afterwards; by place it knows each.
+    for (i, call) in calls[..made].iter().enumerate() {
+        replies[i] = make(&mut search, *call, other, plan);
     }
     search
 }

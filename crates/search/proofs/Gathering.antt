@@ -1,42 +1,35 @@
--- Candidates gathered flow by flow, and chosen flow by flow, as a set is emptied. Assumes nothing.
---   side_by            a time told from a rule's replies
---   Gathering          what is gathered once only the flows of `left` are to come
+-- Candidates gathered flow by flow, and chosen flow by flow. Assumes nothing.
+--   time_by            a time told from a rule's replies
+--   Gathering          what is gathered of the flows seen so far
 --   gathering_some, -skip, -all    one more flow with a time, or without one; no more flow
---   better, best_all   one more flow to choose from; no more flow
-use Rattle.std.proofs.Common.{◌≡◌, ℕ, zero, suc, ◌-◌, ◌≤◌, Bool, true, false, cond, not, ◌&&◌, ltb, List, [], length, get_or, replicate, is_some, Some, None, Option, Result, sym, refl, ap, ◌∙◌, ⊎_elim, arith}
+--   best_none, best_found    no flow to choose from; no more flow
+use Rattle.std.proofs.Common.{◌≡◌, ℕ, zero, suc, ◌-◌, ◌≤◌, Bool, true, false, cond, ◌&&◌, ◌||◌, eqb, List, [], ◌∷◌, ◌++◌, length, get_or, replicate, is_some, Some, None, Option, Result, sym, refl, ap, ◌∙◌, ⊎_elim, arith}
 use lib.ListN as ListN
-use Rattle.std.proofs.lemmas.Bool.Decides.{nat_tests}
-use Rattle.std.proofs.lemmas.Bool.{both_ways, cases_eq, cond-true, cond-false}
+use Rattle.std.proofs.lemmas.Bool.{both_ways, cases_eq, cond-true, cond-false, eq-eqb, ne_eqb, or_right, or_left}
 use Rattle.std.proofs.lemmas.List.{get_or-set_same, get_or-set_other, length-set}
 use Rattle.chip.specs.declared.refusal.Refusal.{Refusal}
 use Rattle.rule.specs.Lists.{among, marks, has}
 use Rattle.rule.specs.Meaning.{Meaning}
 use Rattle.rule.specs.Questions.{asked_deadline}
-use Rattle.rule.specs.FlowSets.{put, members, Popped}
+use Rattle.rule.specs.FlowSets.{put, empty, members}
+use Rattle.rule.proofs.Distinct.{among_push}
 use Rattle.rule.proofs.Members.{among_members, marks_length, has_marks}
 use Rattle.walk.specs.Choice.{keep, best, first_best, choice}
-use Rattle.search.specs.declared.candidates.Side.{Side}
-use Rattle.search.specs.Candidates.{told_slack, asked_side, side_told, time_of, entry_of}
-use Rattle.walk.proofs.Chosen.{has_keep, keep_length}
+use Rattle.search.specs.Candidates.{told_slack, time_told, time_of, entry_of, chosen_by}
+use Rattle.walk.proofs.Chosen.{has_keep, keep_length, members_none, some_empty}
 use Rattle.walk.proofs.Sets.{has_put_same, has_put_other, put_length, same_set}
 
--- a time told from the replies for one side
-pub side_by : (m : Meaning) (side way : Side) (free others : List Bool) (f : ℕ) (answer : Result (Option ℕ) Refusal) (deadline : Result ℕ Refusal) → side ≡ way → others ≡ put free f false → answer ≡ asked_side m way f others → deadline ≡ asked_deadline m f → told_slack answer deadline ≡ side_told m side free f
-unfolding side_told
-side_by m side way free others f answer deadline s o a d = rw (s, a, d, o) refl
+-- a time told from the replies to a question for flow f and the others
+pub time_by : (m : Meaning) (asked : ℕ → List Bool → Result (Option ℕ) Refusal) (free others : List Bool) (f : ℕ) (answer : Result (Option ℕ) Refusal) (deadline : Result ℕ Refusal) → others ≡ put free f false → answer ≡ asked f others → deadline ≡ asked_deadline m f → told_slack answer deadline ≡ time_told m asked free f
+unfolding time_told
+time_by m asked free others f answer deadline o a d = rw (a, d, o) refl
 
--- a flow that is taken out was in the set
-popped_has : (f : ℕ) (left after : List Bool) → Popped (Some f) left after → has left f ≡ true
-popped_has f left after p = sym (among_members f left) ∙ ap (among f) p.0 ∙ grind (arith, nat_tests)
-
--- what is gathered of the free flows but for those left
-pub record Gathering (times : ℕ → Option ℕ) (free left set : List Bool) (table : List ℕ) : Type 0 where
-  pub sized : length left ≡ 20
+-- what is gathered of the flows seen so far: those with a time, and by flow its time
+pub record Gathering (times : ℕ → Option ℕ) (seen : List ℕ) (set : List Bool) (table : List ℕ) : Type 0 where
   pub set_sized : length set ≡ 20
   pub table_sized : length table ≡ 20
-  pub inside : (f : ℕ) → has left f ≡ true → has free f ≡ true
-  pub kept : (f : ℕ) → 1 ≤ f → f ≤ 20 → has set f ≡ ((has free f && not (has left f)) && is_some (times f))
-  pub entries : (f : ℕ) → has free f ≡ true → entry_of table f ≡ cond (has left f) 0 (time_of (times f))
+  pub kept : (f : ℕ) → 1 ≤ f → f ≤ 20 → has set f ≡ (among f seen && is_some (times f))
+  pub entries : (f : ℕ) → 1 ≤ f → entry_of table f ≡ cond (among f seen) (time_of (times f)) 0
 
 flow_at_least : (set : List Bool) (f : ℕ) → has set f ≡ true → 1 ≤ f
 flow_at_least set zero h = absurd (both_ways false refl h)
@@ -53,109 +46,88 @@ entry_none f = each (f - 1)
     each : (i : ℕ) → get_or (replicate {A = ℕ} 20 0) i 0 ≡ 0
     each i = zeros 20 i
 
-module _ (times : ℕ → Option ℕ) (free : List Bool) where
-  pub gathering_none : length free ≡ 20 → Gathering times free free (marks []) (replicate 20 0)
-  gathering_none l =
-      record {
-        sized = l;
-        set_sized = marks_length [];
-        table_sized = refl;
-        inside = λ f h. h;
-        kept = λ f h k. has_marks f [] h k ∙ gone (has free f) (is_some (times f));
-        entries = λ f h. entry_none f ∙ sym (cond-true (has free f) 0 (time_of (times f)) h);
-      }
-    where
-      gone : (b t : Bool) → false ≡ ((b && not b) && t)
-      gone true t = refl
-      gone false t = refl
+-- a flow seen last, and the others
+seen_last : (f : ℕ) (seen : List ℕ) → among f (seen ++ f ∷ []) ≡ true
+seen_last f seen = among_push f f seen ∙ or_right (among f seen) (eqb f f) (eq-eqb f f refl)
 
-  module _ (left after set : List Bool) (table : List ℕ) (f : ℕ) (p : Popped (Some f) left after) (s : Gathering times free left set table) where
-    other_left : (g : ℕ) → (g ≡ f → ⊥) → has after g ≡ has left g
-    other_left g ne = ap (λ (x : List Bool). has x g) p.1 ∙ has_put_other left f g false ne
+seen_other : (g f : ℕ) (seen : List ℕ) → (g ≡ f → ⊥) → among g (seen ++ f ∷ []) ≡ among g seen
+seen_other g f seen ne = among_push g f seen ∙ ap (λ (b : Bool). among g seen || b) (ne_eqb g f ne) ∙ or_none (among g seen)
+  where
+    or_none : (b : Bool) → (b || false) ≡ b
+    or_none true = refl
+    or_none false = refl
 
-    gone_left : has after f ≡ false
-    gone_left = ap (λ (x : List Bool). has x f) p.1 ∙ has_put_same left f false p.2 (let l = s.sized in let q = p.3 in omega arith)
+module _ (times : ℕ → Option ℕ) where
+  pub gathering_none : Gathering times [] (marks []) (replicate 20 0)
+  gathering_none = record { set_sized = marks_length []; table_sized = refl; kept = λ f h k. has_marks f [] h k; entries = λ f h. entry_none f }
 
-    after_sized : length after ≡ 20
-    after_sized = ap length p.1 ∙ put_length left f false ∙ s.sized
-
-    after_inside : (g : ℕ) → has after g ≡ true → has free g ≡ true
-    after_inside g h = ⊎_elim (λ (e : g ≡ f). absurd (both_ways (has after g) (rw e gone_left) h)) (λ ne. s.inside g (sym (other_left g ne) ∙ h)) (cases_eq g f)
-
-    here : has free f ≡ true
-    here = s.inside f (popped_has f left after p)
-
+  module _ (seen : List ℕ) (set : List Bool) (table : List ℕ) (f : ℕ) (low : 1 ≤ f) (high : f ≤ 20) (s : Gathering times seen set table) where
     -- one more flow, with a time
-    pub gathering_some : (t : ℕ) → times f ≡ Some t → Gathering times free after (put set f true) (ListN.set table (f - 1) t)
+    pub gathering_some : (t : ℕ) → times f ≡ Some t → Gathering times (seen ++ f ∷ []) (put set f true) (ListN.set table (f - 1) t)
     gathering_some t e =
         record {
-          sized = after_sized;
           set_sized = put_length set f true ∙ s.set_sized;
           table_sized = length-set table (f - 1) t ∙ s.table_sized;
-          inside = after_inside;
-          kept = λ g h l. ⊎_elim (same_kept g h l) (other_kept g h l) (cases_eq g f);
-          entries = λ g h. ⊎_elim (same_entry g h) (other_entry g h) (cases_eq g f);
+          kept = λ g h l. ⊎_elim (same_kept g) (other_kept g h l) (cases_eq g f);
+          entries = λ g h. ⊎_elim (same_entry g) (other_entry g h) (cases_eq g f);
         }
       where
-        same_kept : (g : ℕ) → 1 ≤ g → g ≤ 20 → g ≡ f → has (put set f true) g ≡ ((has free g && not (has after g)) && is_some (times g))
-        same_kept g h l q = rw (q, here, gone_left, e) (has_put_same set f true p.2 (let a = s.set_sized in let b = p.3 in omega arith))
+        same_kept : (g : ℕ) → g ≡ f → has (put set f true) g ≡ (among g (seen ++ f ∷ []) && is_some (times g))
+        same_kept g q = rw (q, seen_last f seen, e) (has_put_same set f true low (let a = s.set_sized in omega arith))
 
-        other_kept : (g : ℕ) → 1 ≤ g → g ≤ 20 → (g ≡ f → ⊥) → has (put set f true) g ≡ ((has free g && not (has after g)) && is_some (times g))
-        other_kept g h l ne = rw (other_left g ne) (has_put_other set f g true ne ∙ s.kept g h l)
+        other_kept : (g : ℕ) → 1 ≤ g → g ≤ 20 → (g ≡ f → ⊥) → has (put set f true) g ≡ (among g (seen ++ f ∷ []) && is_some (times g))
+        other_kept g h l ne = rw (seen_other g f seen ne) (has_put_other set f g true ne ∙ s.kept g h l)
 
-        same_entry : (g : ℕ) → has free g ≡ true → g ≡ f → entry_of (ListN.set table (f - 1) t) g ≡ cond (has after g) 0 (time_of (times g))
-        same_entry g h q = rw (q, gone_left, e) (get_or-set_same table (f - 1) t 0 (let a = s.table_sized in let b = p.3 in let d = p.2 in omega arith))
+        same_entry : (g : ℕ) → g ≡ f → entry_of (ListN.set table (f - 1) t) g ≡ cond (among g (seen ++ f ∷ [])) (time_of (times g)) 0
+        same_entry g q = rw (q, seen_last f seen, e) (get_or-set_same table (f - 1) t 0 (let a = s.table_sized in omega arith))
 
-        other_entry : (g : ℕ) → has free g ≡ true → (g ≡ f → ⊥) → entry_of (ListN.set table (f - 1) t) g ≡ cond (has after g) 0 (time_of (times g))
+        other_entry : (g : ℕ) → 1 ≤ g → (g ≡ f → ⊥) → entry_of (ListN.set table (f - 1) t) g ≡ cond (among g (seen ++ f ∷ [])) (time_of (times g)) 0
         other_entry g h ne =
-            rw (other_left g ne)
-            (get_or-set_other table (f - 1) (g - 1) t 0 (λ (q : g - 1 ≡ f - 1). ne (let a = flow_at_least free g h in let b = p.2 in omega arith)) ∙ s.entries g h)
+            rw (seen_other g f seen ne) (get_or-set_other table (f - 1) (g - 1) t 0 (λ (q : g - 1 ≡ f - 1). ne (omega arith)) ∙ s.entries g h)
 
     -- one more flow, without a time
-    pub gathering_skip : times f ≡ None → Gathering times free after set table
+    pub gathering_skip : times f ≡ None → Gathering times (seen ++ f ∷ []) set table
     gathering_skip e =
         record {
-          sized = after_sized;
           set_sized = s.set_sized;
           table_sized = s.table_sized;
-          inside = after_inside;
-          kept = λ g h l. s.kept g h l ∙ ⊎_elim (same_kept g) (λ ne. rw (other_left g ne) refl) (cases_eq g f);
-          entries = λ g h. s.entries g h ∙ ⊎_elim (same_entry g) (λ ne. rw (other_left g ne) refl) (cases_eq g f);
+          kept = λ g h l. s.kept g h l ∙ ⊎_elim (same_kept g) (λ ne. rw (seen_other g f seen ne) refl) (cases_eq g f);
+          entries = λ g h. s.entries g h ∙ ⊎_elim (same_entry g) (λ ne. rw (seen_other g f seen ne) refl) (cases_eq g f);
         }
       where
-        same_kept : (g : ℕ) → g ≡ f → ((has free g && not (has left g)) && is_some (times g)) ≡ ((has free g && not (has after g)) && is_some (times g))
-        same_kept g q = rw (q, e, here, popped_has f left after p, gone_left) refl
+        and_none : (b : Bool) → (b && false) ≡ false
+        and_none true = refl
+        and_none false = refl
 
-        same_entry : (g : ℕ) → g ≡ f → cond (has left g) 0 (time_of (times g)) ≡ cond (has after g) 0 (time_of (times g))
-        same_entry g q = rw (q, e, popped_has f left after p, gone_left) refl
+        no_time : (b : Bool) → cond {A = ℕ} b 0 0 ≡ 0
+        no_time true = refl
+        no_time false = refl
+
+        same_kept : (g : ℕ) → g ≡ f → (among g seen && is_some (times g)) ≡ (among g (seen ++ f ∷ []) && is_some (times g))
+        same_kept g q = rw (q, e, seen_last f seen) (and_none (among f seen))
+
+        same_entry : (g : ℕ) → g ≡ f → cond (among g seen) (time_of (times g)) 0 ≡ cond (among g (seen ++ f ∷ [])) (time_of (times g)) 0
+        same_entry g q = rw (q, e, seen_last f seen) (no_time (among f seen))
 
   -- no more flow
-  module _ (left after set : List Bool) (table : List ℕ) (p : Popped None left after) (s : Gathering times free left set table) where
-    spent : (f : ℕ) → has left f ≡ false
-    spent f = sym (among_members f left) ∙ ap (among f) p.0
+  module _ (free : List Bool) (sized : length free ≡ 20) (seen : List ℕ) (all : seen ≡ members free) (set : List Bool) (table : List ℕ) (s : Gathering times seen set table) where
+    seen_free : (f : ℕ) → among f seen ≡ has free f
+    seen_free f = ap (among f) all ∙ among_members f free
 
-    pub gathered_kept : length free ≡ 20 → set ≡ keep (λ f. is_some (times f)) free
-    gathered_kept l =
-        same_set set (keep (λ f. is_some (times f)) free) s.set_sized (keep_length (λ f. is_some (times f)) free ∙ l)
-        (λ f h k. s.kept f h k ∙ rw (spent f) (sym (has_keep (λ f. is_some (times f)) free f ∙ ap (λ (b : Bool). b && is_some (times f)) (kept_true (has free f)))))
-      where
-        kept_true : (b : Bool) → b ≡ (b && true)
-        kept_true true = refl
-        kept_true false = refl
+    pub gathered_kept : set ≡ keep (λ f. is_some (times f)) free
+    gathered_kept =
+        same_set set (keep (λ f. is_some (times f)) free) s.set_sized (keep_length (λ f. is_some (times f)) free ∙ sized)
+        (λ f h k. s.kept f h k ∙ ap (λ (b : Bool). b && is_some (times f)) (seen_free f) ∙ sym (has_keep (λ f. is_some (times f)) free f))
 
     pub gathered_entries : (f : ℕ) → has free f ≡ true → entry_of table f ≡ time_of (times f)
-    gathered_entries f h = s.entries f h ∙ cond-false (has left f) 0 (time_of (times f)) (spent f)
+    gathered_entries f h = s.entries f (flow_at_least free f h) ∙ cond-true (among f seen) (time_of (times f)) 0 (seen_free f ∙ h)
 
--- choosing: with b the best so far, and f taken out next
-module _ (key : ℕ → ℕ) where
-  pub better : (b f : ℕ) (left after : List Bool) → Popped (Some f) left after → best key b (members left) ≡ best key (cond (ltb (key b) (key f)) f b) (members after)
-  better b f left after p = ap (best key b) p.0
+-- choosing: with f the first flow and b the best in the end
+module _ (table : List ℕ) (set : List Bool) where
+  pub best_none : members set ≡ [] → None ≡ chosen_by table set
+  best_none e = sym (cond-true (empty set) None (Some (choice (entry_of table) set)) (members_none 1 set e))
 
-  pub best_all : (b : ℕ) (left after : List Bool) → Popped None left after → best key b (members left) ≡ b
-  best_all b left after p = ap (best key b) p.0
-
-  pub best_first : (f : ℕ) (left after : List Bool) → Popped (Some f) left after → choice key left ≡ best key f (members after)
-  best_first f left after p = ap (first_best key) p.0
-
-  pub best_none : (left after : List Bool) → Popped None left after → choice key left ≡ 0
-  best_none left after p = ap (first_best key) p.0
+  pub best_found : (b f : ℕ) (rest left : List ℕ) → members set ≡ f ∷ rest → best (entry_of table) f rest ≡ best (entry_of table) b left → left ≡ [] → Some b ≡ chosen_by table set
+  best_found b f rest left e q n =
+      ap Some (sym (ap (first_best (entry_of table)) e ∙ q ∙ ap (best (entry_of table) b) n))
+      ∙ sym (cond-false (empty set) None (Some (choice (entry_of table) set)) (some_empty set f (sym (among_members f set) ∙ ap (among f) e ∙ or_left (eqb f f) (among f rest) (eq-eqb f f refl))))

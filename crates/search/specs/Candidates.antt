@@ -1,16 +1,16 @@
 -- How the candidates of a level are gathered from a rule's replies. Assumes nothing.
 --   told_slack     how long before a deadline a reply's answer is
---   side_told      the same for the floor or ceiling of a flow under the other free flows
+--   Answers        what a question is replied to, whatever its reply
+--   time_told      how long before its deadline the answer for a flow under the other free flows is
 --   Gathered       the free flows with such an answer, and how long before its deadline each is
---   choice_by      the choice of a set by a table
-use Rattle.std.specs.Prelude.{◌≡◌, ℕ, ◌-◌, Bool, true, false, List, is_some, Some, None, Ok, Err, Option, Result, slice_index}
+--   choice_by, chosen_by      the choice of a set by a table, and nothing from an empty set
+use Rattle.std.specs.Prelude.{◌≡◌, ℕ, ◌-◌, ◌^◌, ◌<◌, Bool, true, false, cond, List, is_some, Some, None, Ok, Err, Option, Result, slice_index}
 use Rattle.chip.specs.declared.refusal.Refusal.{Refusal}
-use Rattle.rule.specs.FlowSets.{marks_of, put}
+use Rattle.rule.specs.declared.flow_set.FlowSet.{FlowSet}
+use Rattle.rule.specs.FlowSets.{marks_of, put, empty}
 use Rattle.rule.specs.Lists.{has}
 use Rattle.rule.specs.Meaning.{Meaning}
-use Rattle.rule.specs.Questions.{asked_deadline, asked_floor, asked_ceiling}
-use Rattle.search.specs.declared.candidates.Side.{Side}
-use Rattle.search.specs.declared.candidates.Side.TheVariants.{Floor, Ceiling}
+use Rattle.rule.specs.Questions.{asked_deadline}
 use Rattle.search.specs.declared.candidates.Candidates.{Candidates}
 use Rattle.walk.specs.Choice.{keep, choice}
 
@@ -21,14 +21,13 @@ told_slack (Ok (Some r)) (Err e) = None
 told_slack (Ok None) last = None
 told_slack (Err e) last = None
 
--- the reply for the floor or the ceiling of a flow
-abbrev pub asked_side : Meaning → Side → ℕ → List Bool → Result (Option ℕ) Refusal
-asked_side m Floor f set = asked_floor m f set
-asked_side m Ceiling f set = asked_ceiling m f set
+-- each reply to a question about a flow and a set is the one that is asked for
+abbrev pub Answers : (ℕ → FlowSet → Result (Option ℕ) Refusal → Type 0) → (ℕ → List Bool → Result (Option ℕ) Refusal) → Type 0
+Answers Reply asked = (f : ℕ) → f < 2 ^ 8 → (set : FlowSet) (reply : Result (Option ℕ) Refusal) → Reply f set reply → reply ≡ asked f (marks_of set)
 
--- how long before its deadline the floor or ceiling of flow f under the other free flows is
-unfoldable pub side_told : Meaning → Side → List Bool → ℕ → Option ℕ
-side_told m side free f = told_slack (asked_side m side f (put free f false)) (asked_deadline m f)
+-- how long before its deadline the answer that is asked for flow f under the other free flows is
+unfoldable pub time_told : Meaning → (ℕ → List Bool → Result (Option ℕ) Refusal) → List Bool → ℕ → Option ℕ
+time_told m asked free f = told_slack (asked f (put free f false)) (asked_deadline m f)
 
 -- a time, or 0
 abbrev pub time_of : Option ℕ → ℕ
@@ -47,3 +46,7 @@ pub record Gathered (times : ℕ → Option ℕ) (free : List Bool) (r : Candida
 -- the choice of a set by a table
 abbrev pub choice_by : List ℕ → List Bool → ℕ
 choice_by table set = choice (entry_of table) set
+
+-- the same; nothing from an empty set
+abbrev pub chosen_by : List ℕ → List Bool → Option ℕ
+chosen_by table set = cond (empty set) None (Some (choice_by table set))

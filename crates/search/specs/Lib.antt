@@ -3,3 +3,4 @@ pub mod Tables
 pub mod Searches
 pub mod Answers
 pub mod Plans
+pub mod Texts

@@ -3,12 +3,13 @@
 --   plan                      the plan of an ended search
 --   plan_reply, plan_after    the reply to having it written, and the buffer after it
 --   same_reply                the reply to whether two searches have equal plans
-use Rattle.std.specs.Prelude.{ℕ, zero, suc, ◌+◌, ◌/◌, ◌%◌, Bool, true, false, cond, ◌&&◌, List, [], ◌∷◌, ◌++◌, length, take, drop, Ok, Err, Result, ◌==◌, nat_le, slice_index}
+use Rattle.std.specs.Prelude.{ℕ, zero, suc, ◌/◌, ◌%◌, Bool, true, false, cond, ◌&&◌, List, [], ◌∷◌, ◌++◌, length, take, drop, Ok, Err, Result, ◌==◌, nat_le, slice_index}
+use Rattle.std.specs.Option.{option_eq}
+use Rattle.std.specs.Result.{result_ok, result_unwrap_or}
 use Rattle.chip.specs.declared.refusal.Refusal.{Refusal}
 use Rattle.chip.specs.declared.refusal.Refusal.TheVariants.{NoOutcome, ShortBuffer}
 use Rattle.rule.specs.Meaning.{Meaning}
 use Rattle.rule.specs.Questions.{asked_label}
-use Rattle.search.specs.declared.tables.Walk.{Walk}
 use Rattle.search.specs.Candidates.{time_of}
 use Rattle.walk.specs.Walk.{State, going, found, nothing, ended}
 
@@ -53,26 +54,15 @@ plan_reply m s room = cond (ended s) (fit_reply (plan m s) room) (Err NoOutcome)
 abbrev pub plan_after : Meaning → State → List ℕ → List ℕ
 plan_after m s buffer = cond (ended s) (fit_after (plan m s) buffer) buffer
 
--- bytes written at a place of a buffer
-abbrev pub written : ℕ → List ℕ → List ℕ → List ℕ
-written place bytes buffer = take place buffer ++ (bytes ++ drop (place + length bytes) buffer)
+-- the fields of the first k levels of an order with its bounds, as the rule tells its labels
+abbrev pub levels_told : Meaning → List ℕ → List ℕ → ℕ → List ℕ
+levels_told m order bounds zero = []
+levels_told m order bounds (suc k) =
+    levels_told m order bounds k ++ level_bytes (suc k) (result_unwrap_or (asked_label m (slice_index order k)) 0) (slice_index bounds k)
 
--- the label that a reply tells, or 0
-abbrev pub label_told : Result ℕ Refusal → ℕ
-label_told (Ok label) = label
-label_told (Err e) = 0
-
--- the fields of the first k levels as the tables and the rule tell them
-abbrev pub levels_told : Meaning → Walk → ℕ → List ℕ
-levels_told m w zero = []
-levels_told m w (suc k) = levels_told m w k ++ level_bytes (suc k) (label_told (asked_label m (slice_index w.placed k))) (slice_index w.bounds k)
-
--- whether two replies tell the same label
+-- whether two replies tell the same label, or neither tells one
 abbrev pub same_label : Result ℕ Refusal → Result ℕ Refusal → Bool
-same_label (Ok a) (Ok b) = a == b
-same_label (Ok a) (Err e) = false
-same_label (Err e) (Ok b) = false
-same_label (Err e) (Err f) = true
+same_label a b = option_eq (λ x y. x == y) (result_ok a) (result_ok b)
 
 -- whether the flows of two orders have the same labels, level by level
 abbrev pub same_labels : Meaning → List ℕ → Meaning → List ℕ → Bool

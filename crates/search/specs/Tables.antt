@@ -1,31 +1,28 @@
 -- How the tables of a walk stand for where it stands. Assumes nothing.
---   Ranged       the level is one of the flows' levels
 --   filled       the flows on the levels past one, the nearest first
 --   untried_of   the candidates of the level to be filled
 --   standing     the state that the tables stand for
---   due          the move that is due
---   MovedOn, Put    what backing up and a placing change
-use Rattle.std.specs.Prelude.{◌≡◌, ℕ, ◌+◌, ◌-◌, ◌^◌, ◌≤◌, min, Bool, true, false, cond, List, [], ◌∷◌, map, length, take, drop, ◌==◌, slice_index_or, slice_set}
+--   spent, next_of    whether the walk is to back up; the candidate that is next
+--   MovedOn, Put      what backing up and a placing change
+use Rattle.std.specs.Prelude.{◌≡◌, ℕ, ◌+◌, ◌-◌, ◌^◌, ◌≤◌, min, Bool, true, false, cond, List, [], ◌∷◌, map, take, drop, Some, None, Option, slice_index_or, slice_set}
 use Rattle.rule.specs.FlowSets.{marks_of, put, empty}
 use Rattle.search.specs.declared.tables.Walk.{Walk}
-use Rattle.search.specs.declared.tables.Outcome.{Outcome}
-use Rattle.search.specs.declared.tables.Outcome.TheVariants.{Open, Order, NoOrder}
-use Rattle.search.specs.declared.moves.Move.{Move}
-use Rattle.search.specs.declared.moves.Move.TheVariants.{Descend, Test, BackUp, End}
+use Rattle.search.specs.declared.tables.Stage.{Stage}
+use Rattle.search.specs.declared.tables.Stage.TheVariants.{Open, Order, NoOrder}
+use Rattle.search.specs.declared.candidates.Candidates.{Candidates}
 use Rattle.rule.specs.Lists.{is_flow, distinct, has}
 use Rattle.rule.specs.Meaning.{Meaning, leading}
 use Rattle.rule.specs.Questions.{table}
-use Rattle.search.specs.declared.levels.Opened.{Opened}
-use Rattle.walk.specs.Walk.{Frame, State, going, found, nothing, unplaced, floor_slack, with_floor, settled_by_ceiling, candidates, settle, passes}
-use Rattle.search.specs.Candidates.{entry_of, choice_by}
-
--- the level to be filled is one of at most 20 levels, for each of which the tables have an entry
-abbrev pub Ranged : Walk → Type 0
-Ranged w = (1 ≤ w.level) × (w.level ≤ w.flows) × (w.flows ≤ 20) × (length w.placed ≡ 20) × (length w.untried ≡ 20) × (length w.slack ≡ 20)
+use Rattle.walk.specs.Walk.{Frame, State, going, found, nothing, unplaced, floor_slack, by_ceiling, settled_by_ceiling, candidates, settle, passes}
+use Rattle.search.specs.Candidates.{entry_of, choice_by, chosen_by}
 
 -- the untried candidates by level, as marks
 abbrev pub masks : Walk → List (List Bool)
-masks w = map marks_of w.untried
+masks w = map (λ (c : Candidates). marks_of c.set) w.candidates
+
+-- by level, how long before its deadline the floor of each flow is
+abbrev pub slacks : Walk → List (List ℕ)
+slacks w = map (λ (c : Candidates). c.slack) w.candidates
 
 -- the flows on the levels past k, the nearest first
 abbrev pub filled : Walk → ℕ → List ℕ
@@ -49,59 +46,67 @@ untried_of w = slice_index_or (masks w) (w.level - 1) []
 abbrev pub moving : Walk → State
 moving w = settle w.count w.sure (untried_of w) (below_of w w.level)
 
--- the state that the tables stand for, by the outcome
-abbrev pub standing_by : Outcome → Walk → State
+-- the state that the tables stand for, by the stage
+abbrev pub standing_by : Stage → Walk → State
 standing_by Open w = going w.count w.sure (untried_of w) (below_of w w.level)
-standing_by Order w = found w.count (take w.flows w.placed)
+standing_by (Order bounds) w = found w.count (take w.flows w.placed)
 standing_by NoOrder w = nothing w.count
 
 -- the state that the tables stand for
 abbrev pub standing : Walk → State
-standing w = standing_by w.outcome w
+standing w = standing_by w.stage w
 
--- the move that is due, by the outcome
-abbrev pub due_by : Outcome → Walk → Move
-due_by Open w = cond (empty (untried_of w)) BackUp (cond (w.level == 1) Test Descend)
-due_by Order w = End
-due_by NoOrder w = End
+-- whether the walk goes on, with no candidate left on the level to be filled
+abbrev pub spent_by : Stage → Walk → Bool
+spent_by Open w = empty (untried_of w)
+spent_by (Order bounds) w = false
+spent_by NoOrder w = false
 
--- the move that is due
-abbrev pub due : Walk → Move
-due w = due_by w.outcome w
+abbrev pub spent : Walk → Bool
+spent w = spent_by w.stage w
+
+-- the times by which a candidate of the level to be filled is chosen
+abbrev pub slack_of : Walk → List ℕ
+slack_of w = slice_index_or (slacks w) (w.level - 1) []
+
+-- the candidate that is chosen of the level to be filled
+abbrev pub choice_of : Walk → ℕ
+choice_of w = choice_by (slack_of w) (untried_of w)
+
+-- the candidate that is next; nothing once the walk has ended
+abbrev pub next_by : Stage → Walk → Option ℕ
+next_by Open w = chosen_by (slack_of w) (untried_of w)
+next_by (Order bounds) w = None
+next_by NoOrder w = None
+
+abbrev pub next_of : Walk → Option ℕ
+next_of w = next_by w.stage w
 
 -- everything but where the walk stands among its levels is kept
 pub record SameTables (before after : Walk) : Type 0 where
   pub flows : after.flows ≡ before.flows
   pub placed : after.placed ≡ before.placed
-  pub untried : after.untried ≡ before.untried
-  pub slack : after.slack ≡ before.slack
-  pub bounds : after.bounds ≡ before.bounds
+  pub candidates : after.candidates ≡ before.candidates
   pub count : after.count ≡ before.count
 
--- an open walk has moved on
+-- an open walk has moved on; an order that ended it is kept
 pub record MovedOn (before after : Walk) : Type 0 where
-  pub ranged : Ranged after
   pub same : SameTables before after
   pub lower : before.level ≤ after.level
-  pub stands : before.outcome ≡ Open → standing after ≡ moving before
-  pub kept_order : before.outcome ≡ Order → after.outcome ≡ Order
-  pub was_order : after.outcome ≡ Order → before.outcome ≡ Order
+  pub stands : before.stage ≡ Open → standing after ≡ moving before
+  pub kept_order : (bounds : List ℕ) → before.stage ≡ Order bounds → after.stage ≡ Order bounds
+  pub was_order : (bounds : List ℕ) → after.stage ≡ Order bounds → before.stage ≡ Order bounds
 
--- the flow that is put on the level
-abbrev pub choice_of : Walk → ℕ
-choice_of w = choice_by (slice_index_or w.slack (w.level - 1) []) (untried_of w)
-
--- the next candidate is put on the level
-pub record Put (before after : Walk) : Type 0 where
+-- flow f is put on the level to be filled
+pub record Put (f : ℕ) (before after : Walk) : Type 0 where
   pub flows : after.flows ≡ before.flows
   pub level : after.level ≡ before.level
   pub sure : after.sure ≡ before.sure
-  pub placed : after.placed ≡ slice_set before.placed (before.level - 1) (choice_of before)
-  pub untried : masks after ≡ slice_set (masks before) (before.level - 1) (put (untried_of before) (choice_of before) false)
-  pub slack : after.slack ≡ before.slack
-  pub bounds : after.bounds ≡ before.bounds
+  pub placed : after.placed ≡ slice_set before.placed (before.level - 1) f
+  pub untried : masks after ≡ slice_set (masks before) (before.level - 1) (put (untried_of before) f false)
+  pub slack : slacks after ≡ slacks before
   pub count : after.count ≡ min (before.count + 1) (2 ^ 64 - 1)
-  pub outcome : after.outcome ≡ before.outcome
+  pub stage : after.stage ≡ before.stage
 
 -- times by flow that are those between floor and deadline, for every free flow
 abbrev pub Row : Meaning → List Bool → List ℕ → Type 0
@@ -111,10 +116,9 @@ Row m free row = (f : ℕ) → has free f ≡ true → entry_of row f ≡ floor_
 abbrev pub FlowsOnly : Meaning → List Bool → Type 0
 FlowsOnly m free = (f : ℕ) → has free f ≡ true → is_flow m.flows f ≡ true
 
--- the candidates of a level, made from the flows with a floor
-abbrev pub Settled : Meaning → Bool → List Bool → List Bool → Opened → Type 0
-Settled m sure free floors r =
-    FlowsOnly m free → floors ≡ with_floor m free → (marks_of r.set ≡ candidates m sure free) × (r.sure ≡ settled_by_ceiling m sure free)
+-- the flow by which a level is settled by ceiling, if it is
+abbrev pub Settled : Meaning → Bool → List Bool → Option ℕ → Type 0
+Settled m sure free r = FlowsOnly m free → r ≡ cond (settled_by_ceiling m sure free) (Some (by_ceiling m free)) None
 
 -- the unplaced flows at the level to be filled
 abbrev pub free_of : Walk → List Bool
@@ -122,15 +126,14 @@ free_of w = unplaced w.flows (filled w w.level)
 
 -- the level to be filled is opened by asking the rule
 pub record Entered (m : Meaning) (before after : Walk) : Type 0 where
-  pub ranged : Ranged after
   pub flows : after.flows ≡ before.flows
   pub level : after.level ≡ before.level
   pub placed : after.placed ≡ before.placed
   pub count : after.count ≡ before.count
-  pub outcome : after.outcome ≡ before.outcome
+  pub stage : after.stage ≡ before.stage
   pub below : drop before.level (masks after) ≡ drop before.level (masks before)
-  pub rows : (i : ℕ) → before.level ≤ i → slice_index_or after.slack i [] ≡ slice_index_or before.slack i []
-  pub row : before.flows ≡ m.flows → Row m (free_of before) (slice_index_or after.slack (before.level - 1) [])
+  pub rows : (i : ℕ) → before.level ≤ i → slice_index_or (slacks after) i [] ≡ slice_index_or (slacks before) i []
+  pub row : before.flows ≡ m.flows → Row m (free_of before) (slice_index_or (slacks after) (before.level - 1) [])
   pub untried : before.flows ≡ m.flows → untried_of after ≡ candidates m before.sure (free_of before)
   pub sure : before.flows ≡ m.flows → after.sure ≡ settled_by_ceiling m before.sure (free_of before)
 
@@ -138,17 +141,15 @@ pub record Entered (m : Meaning) (before after : Walk) : Type 0 where
 abbrev pub order_of : Walk → List ℕ
 order_of w = take w.flows w.placed
 
--- what a test of the order changes: an order that passes ends the walk, with its bounds
-abbrev pub Passed : Meaning → Walk → Walk → Bool → Type 0
-Passed m before after true = (after.outcome ≡ Order) × (after.bounds ≡ (table (leading m [] (order_of before))).ticks)
-Passed m before after false = (after.outcome ≡ before.outcome) × (after.sure ≡ false)
+-- the stage of a walk, and whether it is sure, after a test of its order: one that passes ends it, with its bounds
+abbrev pub Passed : Meaning → Walk → Stage → Bool → Bool → Type 0
+Passed m before stage sure true = stage ≡ Order (table (leading m [] (order_of before))).ticks
+Passed m before stage sure false = (stage ≡ before.stage) × (sure ≡ false)
 
 pub record Tested (m : Meaning) (before after : Walk) : Type 0 where
-  pub ranged : Ranged after
   pub flows : after.flows ≡ before.flows
   pub level : after.level ≡ before.level
   pub placed : after.placed ≡ before.placed
-  pub untried : after.untried ≡ before.untried
-  pub slack : after.slack ≡ before.slack
+  pub candidates : after.candidates ≡ before.candidates
   pub count : after.count ≡ before.count
-  pub passed : distinct m.flows (order_of before) ≡ true → Passed m before after (passes m (order_of before))
+  pub passed : distinct m.flows (order_of before) ≡ true → Passed m before after.stage after.sure (passes m (order_of before))

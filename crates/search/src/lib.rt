@@ -13,5 +13,6 @@ mod plan;
 mod searching;
 mod tables;
 
+pub use plan::{LEVEL_BYTES, MAX_PLAN, TAIL_BYTES};
 pub use searching::{Level, Search};
 pub use tables::Outcome;

@@ -1,107 +1,78 @@
 // The bytes of a plan, and the labels by which plans are compared.
 ghost use Rattle.std.specs.Prelude.{◌≡◌, ◌+◌, ◌*◌, ◌≤◌, ◌++◌, length, drop};
-ghost use Rattle.search.specs.Plans.{level_bytes, tail_bytes, no_order_bytes, written, label_told, levels_told, fit_reply, fit_after, same_label, same_labels};
-ghost use Rattle.search.specs.Tables.{Ranged};
+ghost use Rattle.std.specs.List.{list_all, zip};
+ghost use Rattle.rule.specs.Questions.{asked_label};
+ghost use Rattle.search.specs.Plans.{level_bytes, tail_bytes, no_order_bytes, levels_told, fit_reply, fit_after, same_label, same_labels};
 
-use crate::tables::Walk;
 use chip::Refusal;
 use rule::Rule;
+use table::Table;
 
 // How many bytes the field of a level has.
-pub(crate) const LEVEL_BYTES: usize = 10;
-
-// How many bytes the field that stands for no order has.
-pub(crate) const NO_ORDER_BYTES: usize = 3;
+pub const LEVEL_BYTES: usize = 10;
 
 // How many bytes the fields after the levels have.
-pub(crate) const TAIL_BYTES: usize = 14;
+pub const TAIL_BYTES: usize = 14;
 
-// Writes bytes at a place of a buffer.
-pub(crate) fn write_at(buffer: &mut [u8], place: usize, bytes: &[u8])
-    requires { place + length bytes.now ≤ length buffer.old }
-    ensures { buffer.new ≡ written place bytes.now buffer.old }
-{
-    let end = place + bytes.len();
-    buffer[place..end].copy_from_slice(bytes);
-}
+// How many bytes the longest plan has: 20 levels and what follows them.
+pub const MAX_PLAN: usize = 214;
 
-// The field of a level.
-fn level_field(level: u8, label: u16, bound: u32) -> [u8; 10]
+// The field of a level. The tag of each kind of field stands once, in the bytes that it begins.
+fn level_field(level: u8, label: u16, bound: u32) -> [u8; LEVEL_BYTES]
     ensures { result ≡ level_bytes level label bound }
 {
-    [
-        0x11,
-        0,
-        7,
-        level,
-        (label / 256 % 256) as u8,
-        (label % 256) as u8,
-        (bound / 16777216 % 256) as u8,
-        (bound / 65536 % 256) as u8,
-        (bound / 256 % 256) as u8,
-        (bound % 256) as u8,
-    ]
+    let mut field = [0x11, 0, 7, level, 0, 0, 0, 0, 0, 0];
+    field[4..6].copy_from_slice(&label.to_be_bytes());
+    field[6..].copy_from_slice(&bound.to_be_bytes());
+    field
 }
 
 // The fields of the count of placings and of the end.
-pub(crate) fn tail_fields(count: u64) -> [u8; 14]
+fn tail_fields(count: u64) -> [u8; TAIL_BYTES]
     ensures { result ≡ tail_bytes count }
 {
-    [
-        0x13,
-        0,
-        8,
-        (count / 72057594037927936 % 256) as u8,
-        (count / 281474976710656 % 256) as u8,
-        (count / 1099511627776 % 256) as u8,
-        (count / 4294967296 % 256) as u8,
-        (count / 16777216 % 256) as u8,
-        (count / 65536 % 256) as u8,
-        (count / 256 % 256) as u8,
-        (count % 256) as u8,
-        0x05,
-        0,
-        0,
-    ]
+    let mut fields = [0x13, 0, 8, 0, 0, 0, 0, 0, 0, 0, 0, 0x05, 0, 0];
+    fields[3..11].copy_from_slice(&count.to_be_bytes());
+    fields
 }
 
-// The label that a reply tells, or 0.
-fn label_told(reply: Result<u16, Refusal>) -> u16
-    ensures { result ≡ label_told reply }
+// The fields of all levels: of the flows of an order, and of their bounds.
+fn levels<R: Rule>(rule: &R, order: &[u8], bounds: &[u32; 20]) -> Table<u8, MAX_PLAN>
+    requires { length order.now ≤ 20 }
+    ensures { result.items ≡ levels_told (R.Rule.meaning rule.now) order.now bounds.now (length order.now) }
 {
-    match reply {
-        Ok(label) => label,
-        Err(_) => 0,
+    let mut plan = Table::empty(0);
+    for (i, f) in order.iter().enumerate() {
+        let label = rule.label(*f).unwrap_or(0);
+        let field = level_field(i as u8 + 1, label, bounds[i]);
+        plan.extend(&field).unwrap();
     }
+    plan
 }
 
-// Writes the fields of all levels at the front of a plan.
-pub(crate) fn write_levels<R: Rule>(rule: &R, w: &Walk, plan: &mut [u8])
-    requires ranged { Ranged w.now }
-    requires flows_in_bounds { 10 * w.now.flows ≤ length plan.old }
-    ensures { plan.new ≡ levels_told (R.Rule.meaning rule.now) w.now w.now.flows ++ drop (10 * w.now.flows) plan.old }
+// Copies a plan to the front of a buffer; refuses a shorter one.
+fn copied(plan: &Table<u8, MAX_PLAN>, buffer: &mut [u8]) -> Result<usize, Refusal>
+    ensures reply { result ≡ fit_reply plan.now.items (length buffer.old) }
+    ensures after { buffer.new ≡ fit_after plan.now.items buffer.old }
 {
-    for i in 0..w.flows as usize {
-        let label = label_told(rule.label(w.placed[i]));
-        let field = level_field(i as u8 + 1, label, w.bounds[i]);
-        write_at(plan, LEVEL_BYTES * i, &field);
-    }
+    plan.copy_to(buffer).map_err(|_| Refusal::ShortBuffer)
 }
 
-// Writes the plan of an order; refuses a buffer shorter than it.
-pub(crate) fn write_order<R: Rule>(rule: &R, w: &Walk, buffer: &mut [u8]) -> Result<usize, Refusal>
-    requires { Ranged w.now }
-    ensures reply { result ≡ fit_reply (levels_told (R.Rule.meaning rule.now) w.now w.now.flows ++ tail_bytes w.now.count) (length buffer.old) }
-    ensures after { buffer.new ≡ fit_after (levels_told (R.Rule.meaning rule.now) w.now w.now.flows ++ tail_bytes w.now.count) buffer.old }
+// Writes the plan of an order, from its bounds and the count of placings; refuses a buffer shorter than it.
+pub(crate) fn write_order<R: Rule>(
+    rule: &R,
+    order: &[u8],
+    bounds: &[u32; 20],
+    count: u64,
+    buffer: &mut [u8],
+) -> Result<usize, Refusal>
+    requires { length order.now ≤ 20 }
+    ensures reply { result ≡ fit_reply (levels_told (R.Rule.meaning rule.now) order.now bounds.now (length order.now) ++ tail_bytes count) (length buffer.old) }
+    ensures after { buffer.new ≡ fit_after (levels_told (R.Rule.meaning rule.now) order.now bounds.now (length order.now) ++ tail_bytes count) buffer.old }
 {
-    let levels = LEVEL_BYTES * w.flows as usize;
-    if buffer.len() < levels + TAIL_BYTES {
-        return Err(Refusal::ShortBuffer);
-    }
-    write_levels(rule, w, buffer);
-    let tail = tail_fields(w.count);
-    write_at(buffer, levels, &tail);
-    Ok(levels + TAIL_BYTES)
+    let mut plan = levels(rule, order, bounds);
+    plan.extend(&tail_fields(count)).unwrap();
+    copied(&plan, buffer)
 }
 
 // Writes the plan of a search without an order; refuses a buffer shorter than it.
@@ -109,25 +80,27 @@ pub(crate) fn write_no_order(count: u64, buffer: &mut [u8]) -> Result<usize, Ref
     ensures reply { result ≡ fit_reply (no_order_bytes ++ tail_bytes count) (length buffer.old) }
     ensures after { buffer.new ≡ fit_after (no_order_bytes ++ tail_bytes count) buffer.old }
 {
-    if buffer.len() < NO_ORDER_BYTES + TAIL_BYTES {
-        return Err(Refusal::ShortBuffer);
-    }
-    let none = [0x12, 0, 0];
-    write_at(buffer, 0, &none);
-    let tail = tail_fields(count);
-    write_at(buffer, NO_ORDER_BYTES, &tail);
-    Ok(NO_ORDER_BYTES + TAIL_BYTES)
+    let mut plan = Table::<u8, MAX_PLAN>::empty(0);
+    plan.extend(&[0x12, 0, 0]).unwrap();
+    plan.extend(&tail_fields(count)).unwrap();
+    copied(&plan, buffer)
 }
 
-// Whether two replies tell the same label.
-fn same_label(a: Result<u16, Refusal>, b: Result<u16, Refusal>) -> bool
-    ensures { result ≡ same_label a b }
+// Whether a flow of one rule has the label of a flow of another.
+fn same_label<R: Rule, Q: Rule>(rule: &R, f: u8, other: &Q, g: u8) -> bool
+    ensures { result ≡ same_label (asked_label (R.Rule.meaning rule.now) f) (asked_label (Q.Rule.meaning other.now) g) }
 {
-    match (a, b) {
-        (Ok(a), Ok(b)) => a == b,
-        (Err(_), Err(_)) => true,
-        _ => false,
-    }
+    rule.label(f).ok() == other.label(g).ok()
+}
+
+// Whether the flows of two orders of one length have the same labels, level by level.
+fn labels_agree<R: Rule, Q: Rule>(rule: &R, order: &[u8], other: &Q, theirs: &[u8]) -> bool
+    ensures { result ≡ list_all (λ p. same_label (asked_label (R.Rule.meaning rule.now) p.0) (asked_label (Q.Rule.meaning other.now) p.1)) (zip order.now theirs.now) }
+{
+    order
+        .iter()
+        .zip(theirs)
+        .all(|(f, g)| same_label(rule, *f, other, *g))
 }
 
 // Whether the flows of two orders have the same labels, level by level.
@@ -139,13 +112,5 @@ pub(crate) fn same_labels<R: Rule, Q: Rule>(
 ) -> bool
     ensures { result ≡ same_labels (R.Rule.meaning rule.now) order.now (Q.Rule.meaning other.now) theirs.now }
 {
-    if order.len() != theirs.len() {
-        return false;
-    }
-    for i in 0..order.len() {
-        if !same_label(rule.label(order[i]), other.label(theirs[i])) {
-            return false;
-        }
-    }
-    true
+    order.len() == theirs.len() && labels_agree(rule, order, other, theirs)
 }

@@ -1,3 +1,3 @@
 pub mod Listed
+pub mod Equal
 pub mod Same
-pub mod PairsEqual

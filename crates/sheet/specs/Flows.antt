@@ -1,9 +1,9 @@
 -- The flows of a sheet in their order, and when one more is refused. Assumes nothing.
---   listed         the flows that a table of flows holds
 --   labelled       whether a label is on the sheet
 --   add_fault      the number with which one more flow is refused, 0 for none
-use Rattle.std.specs.Prelude.{ℕ, zero, suc, Bool, true, false, cond, not, ◌&&◌, ◌||◌, List, [], ◌∷◌, ◌++◌, map, length, take, Some, None, Option, ◌==◌, nat_le}
-use Rattle.std.specs.List.{slice_get}
+use Rattle.std.specs.Prelude.{ℕ, zero, suc, Bool, true, cond, not, ◌&&◌, List, [], ◌∷◌, ◌++◌, length, None, Option, ◌==◌, nat_le}
+use Rattle.std.specs.List.{list_any, slice_get}
+use Rattle.std.specs.Option.{option_map}
 use Rattle.chip.specs.declared.flow.Flow.{Flow}
 use Rattle.chip.specs.declared.parameters.FlowParameters.{FlowParameters}
 
@@ -11,14 +11,9 @@ use Rattle.chip.specs.declared.parameters.FlowParameters.{FlowParameters}
 abbrev pub said : Flow → FlowParameters
 said f = f.parameters
 
--- the first `count` flows of a table
-abbrev pub listed : List Flow → ℕ → List FlowParameters
-listed flows count = map said (take count flows)
-
 -- whether some flow has this label
 abbrev pub labelled : ℕ → List FlowParameters → Bool
-labelled label [] = false
-labelled label (p ∷ ps) = label == p.label || labelled label ps
+labelled label = list_any (λ p. label == p.label)
 
 -- whether no label stands twice
 abbrev pub distinct_labels : List FlowParameters → Bool
@@ -35,8 +30,7 @@ after_adding ps p = cond (add_fault ps p == 0) (ps ++ p ∷ []) ps
 
 -- what is said of a flow, if there is one
 abbrev pub said_of : Option Flow → Option FlowParameters
-said_of None = None
-said_of (Some f) = Some (said f)
+said_of = option_map said
 
 -- the flow with this number: the first has number 1, and no flow has number 0
 abbrev pub flow_numbered : ℕ → List FlowParameters → Option FlowParameters

@@ -1,5 +1,6 @@
 -- The pairs of a job, and when one more is refused. Assumes nothing.
-use Rattle.std.specs.Prelude.{ℕ, Bool, true, cond, not, ◌&&◌, List, [], ◌∷◌, ◌++◌, length, ◌==◌, nat_le}
+use Rattle.std.specs.Prelude.{ℕ, Bool, cond, not, ◌&&◌, List, [], ◌∷◌, ◌++◌, length, ◌==◌, nat_le}
+use Rattle.std.specs.List.{list_all}
 use Rattle.chip.specs.declared.parameters.FlowParameters.{FlowParameters}
 use Rattle.sheet.specs.declared.pair.Pair.{Pair}
 use Rattle.sheet.specs.Flows.{labelled}
@@ -10,8 +11,7 @@ pair_holds ps q = labelled q.first ps && labelled q.later ps && not (q.first == 
 
 -- whether each pair does
 abbrev pub pairs_hold : List FlowParameters → List Pair → Bool
-pairs_hold ps [] = true
-pairs_hold ps (q ∷ qs) = pair_holds ps q && pairs_hold ps qs
+pairs_hold ps = list_all (pair_holds ps)
 
 -- a pair that names no flow or one flow twice, then a 17th pair
 abbrev pub pair_fault : List FlowParameters → List Pair → Pair → ℕ

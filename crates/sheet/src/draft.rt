@@ -4,13 +4,13 @@ ghost use Rattle.chip.specs.Flows.{Answers};
 ghost use Rattle.sheet.specs.Flows.{add_fault, after_adding};
 ghost use Rattle.sheet.specs.Sheets.{drafted, flows_of};
 
-use crate::flow_list::FlowList;
 use crate::sheet::Sheet;
 use chip::{Flow, Refusal};
 
+// The sheet that it would be closed into. No model: of a bare list it would not be known that the sheet's rules hold.
 #[derive(Drop)]
 pub struct Draft {
-    pub(crate) list: FlowList,
+    pub(crate) sheet: Sheet,
 }
 
 impl Draft {
@@ -19,7 +19,7 @@ impl Draft {
         ensures { drafted result ≡ first.parameters ∷ [] }
     {
         Draft {
-            list: FlowList::of(first),
+            sheet: Sheet::of(first),
         }
     }
 
@@ -29,13 +29,14 @@ impl Draft {
         ensures reply { Answers result (add_fault (drafted self.old) flow.parameters) (λ _. Unit {0}) }
         ensures after { drafted self.new ≡ after_adding (drafted self.old) flow.parameters }
     {
-        self.list.add(flow)
+        self.sheet.add(flow)
     }
 
     // Closes the draft: the sheet holds its flows in their order.
     pub fn close(self) -> Sheet
         ensures { flows_of result ≡ drafted self }
     {
-        Sheet { list: self.list }
+        let Draft { sheet } = self;
+        sheet
     }
 }

@@ -2,7 +2,6 @@
 #![tactic(auto)]
 
 pub mod draft;
-mod flow_list;
 pub mod letter;
 pub mod pair;
 pub mod sheet;

@@ -14,36 +14,25 @@ const SHEET_A: [u8; 82] = [
 
 // The job of a sheet that must be accepted.
 fn accepted(bytes: &[u8]) -> Result<Job, Fail> {
-    match read(bytes) {
-        Ok(job) => Ok(job),
-        Err(_) => Err(Fail::new("refused")),
-    }
+    read(bytes).map_err(|_| Fail::new("refused"))
 }
 
-// The refusal's number and byte, or 0 and the number of flows.
-fn told(bytes: &[u8]) -> (u8, usize) {
+// The number of flows, or the refusal's number and byte.
+fn told(bytes: &[u8]) -> Result<usize, (u8, usize)> {
     match read(bytes) {
-        Ok(job) => (0, job.sheet().count()),
-        Err(fault) => (fault.refusal.number(), fault.byte),
+        Ok(job) => Ok(job.sheet().count()),
+        Err(fault) => Err((fault.refusal.number(), fault.byte)),
     }
-}
-
-fn told_of(b: &Builder) -> (u8, usize) {
-    told(&b.bytes[0..b.len])
 }
 
 #[test]
 fn sheet_a_is_read_as_it_says(rt: HostRuntime) -> Result<(), Fail> {
     let job = accepted(&SHEET_A)?;
-    assert_eq!(rt; job.letter().as_char(), 'J');
+    assert_eq!(rt; char::from(job.letter()), 'J');
     assert_eq!(rt; job.sheet().count(), 3);
     assert!(rt; job.reserve().is_none());
-    assert_eq!(rt; job.pair_count(), 0);
-    let Some(flow) = job.sheet().flow(3) else {
-        assert!(rt; false, "no flow 3");
-        return Ok(());
-    };
-    let p = flow.parameters();
+    assert_eq!(rt; job.pairs().len(), 0);
+    let p = job.sheet().flow(3).expect(&rt, "no flow 3").parameters();
     assert_eq!(rt; p.label, 203);
     assert_eq!(rt; p.period, 13);
     assert_eq!(rt; p.deadline, 13);
@@ -60,12 +49,8 @@ fn sheet_a_is_written_back(rt: HostRuntime) -> Result<(), Fail> {
     let job = accepted(&SHEET_A)?;
     let mut buffer = [0xEEu8; 90];
     assert_eq!(rt; write(&job, &mut buffer).ok(), Some(82));
-    for i in 0..82 {
-        assert_eq!(rt; buffer[i], SHEET_A[i]);
-    }
-    for i in 82..90 {
-        assert_eq!(rt; buffer[i], 0xEE);
-    }
+    assert!(rt; buffer.starts_with(&SHEET_A));
+    assert!(rt; buffer.iter().skip(82).all(|byte| *byte == 0xEE));
     Ok(())
 }
 
@@ -74,13 +59,9 @@ fn sheet_a_is_written_back(rt: HostRuntime) -> Result<(), Fail> {
 fn a_short_buffer_is_left_alone(rt: HostRuntime) -> Result<(), Fail> {
     let job = accepted(&SHEET_A)?;
     let mut buffer = [0xEEu8; 81];
-    match write(&job, &mut buffer) {
-        Ok(_) => assert!(rt; false),
-        Err(refusal) => assert_eq!(rt; refusal.number(), 14),
-    }
-    for i in 0..81 {
-        assert_eq!(rt; buffer[i], 0xEE);
-    }
+    let written = write(&job, &mut buffer).map_err(|refusal| refusal.number());
+    assert_eq!(rt; written, Err(14));
+    assert_eq!(rt; buffer, [0xEE; 81]);
     Ok(())
 }
 
@@ -96,7 +77,7 @@ fn every_truncation_tells_its_field(rt: HostRuntime) {
             54..=78 => 54,
             _ => 79,
         };
-        assert_eq!(rt; told(&SHEET_A[0..len]), (1, field));
+        assert_eq!(rt; told(&SHEET_A[..len]), Err((1, field)));
     }
 }
 
@@ -129,10 +110,9 @@ fn every_fault_has_its_number_and_byte(rt: HostRuntime) {
     ];
     for (place, value, number, byte) in edits {
         let mut bytes = SHEET_A;
-        if place < 82 {
-            bytes[place] = value;
-        }
-        assert_eq!(rt; told(&bytes), (number, byte));
+        assert!(rt; place < bytes.len());
+        bytes[place] = value;
+        assert_eq!(rt; told(&bytes), Err((number, byte)));
     }
 }
 
@@ -142,117 +122,120 @@ fn faults_of_one_field_are_told_in_order(rt: HostRuntime) {
     let mut bytes = SHEET_A;
     bytes[33] = 0xC9;
     bytes[32] = 0x00;
-    assert_eq!(rt; told(&bytes), (8, 29));
+    assert_eq!(rt; told(&bytes), Err((8, 29)));
     bytes[33] = 0x00;
-    assert_eq!(rt; told(&bytes), (7, 29));
+    assert_eq!(rt; told(&bytes), Err((7, 29)));
     bytes[50] = 0x06;
-    assert_eq!(rt; told(&bytes), (6, 29));
+    assert_eq!(rt; told(&bytes), Err((6, 29)));
     bytes[49] = 0x00;
-    assert_eq!(rt; told(&bytes), (5, 29));
+    assert_eq!(rt; told(&bytes), Err((5, 29)));
     bytes[31] = 0x00;
-    assert_eq!(rt; told(&bytes), (3, 29));
+    assert_eq!(rt; told(&bytes), Err((3, 29)));
 }
 
 #[test]
-fn bytes_after_the_end_are_refused(rt: HostRuntime) {
-    let mut b = Builder::new(b'D');
-    b.flow(1);
-    b.end();
-    assert_eq!(rt; told_of(&b), (0, 1));
-    b.put(&[0]);
-    assert_eq!(rt; told_of(&b), (13, 32));
+fn bytes_after_the_end_are_refused(rt: HostRuntime) -> Result<(), Fail> {
+    let mut b = Builder::new(rt.alloc(), b'D')?;
+    b.flow(1)?;
+    b.end()?;
+    assert_eq!(rt; told(&b.bytes), Ok(1));
+    b.put(&[0])?;
+    assert_eq!(rt; told(&b.bytes), Err((13, 32)));
+    Ok(())
 }
 
 #[test]
-fn twenty_flows_and_no_more(rt: HostRuntime) {
-    let mut b = Builder::new(b'L');
-    b.flows(20);
-    b.end();
-    assert_eq!(rt; told_of(&b), (0, 20));
-    let mut b = Builder::new(b'L');
-    b.flows(21);
-    b.end();
-    assert_eq!(rt; told_of(&b), (9, 504));
+fn twenty_flows_and_no_more(rt: HostRuntime) -> Result<(), Fail> {
+    let mut b = Builder::new(rt.alloc(), b'L')?;
+    b.flows(20)?;
+    b.end()?;
+    assert_eq!(rt; told(&b.bytes), Ok(20));
+    let mut b = Builder::new(rt.alloc(), b'L')?;
+    b.flows(21)?;
+    b.end()?;
+    assert_eq!(rt; told(&b.bytes), Err((9, 504)));
+    Ok(())
 }
 
 // A 21st flow with a label that is taken is refused for the label.
 #[test]
-fn a_taken_label_is_told_before_the_21st_flow(rt: HostRuntime) {
-    let mut b = Builder::new(b'L');
-    b.flows(20);
-    b.flow(20);
-    b.end();
-    assert_eq!(rt; told_of(&b), (8, 504));
+fn a_taken_label_is_told_before_the_21st_flow(rt: HostRuntime) -> Result<(), Fail> {
+    let mut b = Builder::new(rt.alloc(), b'L')?;
+    b.flows(20)?;
+    b.flow(20)?;
+    b.end()?;
+    assert_eq!(rt; told(&b.bytes), Err((8, 504)));
+    Ok(())
 }
 
 #[test]
-fn sixteen_pairs_and_no_more(rt: HostRuntime) {
-    let mut b = Builder::new(b'D');
-    b.flows(2);
-    b.pairs(16);
-    b.end();
-    assert_eq!(rt; told_of(&b), (0, 2));
-    let mut b = Builder::new(b'D');
-    b.flows(2);
-    b.pairs(17);
-    b.end();
-    assert_eq!(rt; told_of(&b), (12, 166));
+fn sixteen_pairs_and_no_more(rt: HostRuntime) -> Result<(), Fail> {
+    let mut b = Builder::new(rt.alloc(), b'D')?;
+    b.flows(2)?;
+    b.pairs(16)?;
+    b.end()?;
+    assert_eq!(rt; told(&b.bytes), Ok(2));
+    let mut b = Builder::new(rt.alloc(), b'D')?;
+    b.flows(2)?;
+    b.pairs(17)?;
+    b.end()?;
+    assert_eq!(rt; told(&b.bytes), Err((12, 166)));
+    Ok(())
 }
 
 #[test]
-fn pairs_name_two_flows(rt: HostRuntime) {
-    let mut b = Builder::new(b'D');
-    b.flows(2);
-    b.put(&[0x04, 0, 4, 0, 1, 0, 3]);
-    b.end();
-    assert_eq!(rt; told_of(&b), (11, 54));
-    let mut b = Builder::new(b'D');
-    b.flows(2);
-    b.put(&[0x04, 0, 4, 0, 2, 0, 2]);
-    b.end();
-    assert_eq!(rt; told_of(&b), (11, 54));
+fn pairs_name_two_flows(rt: HostRuntime) -> Result<(), Fail> {
+    let mut b = Builder::new(rt.alloc(), b'D')?;
+    b.flows(2)?;
+    b.put(&[0x04, 0, 4, 0, 1, 0, 3])?;
+    b.end()?;
+    assert_eq!(rt; told(&b.bytes), Err((11, 54)));
+    let mut b = Builder::new(rt.alloc(), b'D')?;
+    b.flows(2)?;
+    b.put(&[0x04, 0, 4, 0, 2, 0, 2])?;
+    b.end()?;
+    assert_eq!(rt; told(&b.bytes), Err((11, 54)));
+    Ok(())
 }
 
 #[test]
 fn a_reserve_is_absent_or_within_its_limit(rt: HostRuntime) -> Result<(), Fail> {
-    let mut b = Builder::new(b'D');
-    b.flow(1);
-    b.reserve(1_000_001);
-    b.end();
-    assert_eq!(rt; told_of(&b), (10, 29));
+    let mut b = Builder::new(rt.alloc(), b'D')?;
+    b.flow(1)?;
+    b.reserve(1_000_001)?;
+    b.end()?;
+    assert_eq!(rt; told(&b.bytes), Err((10, 29)));
     for ticks in [0u32, 1, 1_000_000] {
-        let mut b = Builder::new(b'D');
-        b.flow(1);
-        b.reserve(ticks);
-        b.end();
-        let job = accepted(&b.bytes[0..b.len])?;
-        match job.reserve() {
-            None => assert!(rt; false, "no reserve"),
-            Some(reserve) => assert_eq!(rt; reserve.count(), ticks),
-        }
+        let mut b = Builder::new(rt.alloc(), b'D')?;
+        b.flow(1)?;
+        b.reserve(ticks)?;
+        b.end()?;
+        let job = accepted(&b.bytes)?;
+        assert_eq!(rt; job.reserve().map(|reserve| reserve.count()), Some(ticks));
     }
     Ok(())
 }
 
 // The reserve comes once, before the pairs, and no flow comes after it.
 #[test]
-fn fields_come_in_their_order(rt: HostRuntime) {
-    let mut b = Builder::new(b'D');
-    b.flows(2);
-    b.reserve(5);
-    b.reserve(5);
-    assert_eq!(rt; told_of(&b), (2, 61));
-    let mut b = Builder::new(b'D');
-    b.flows(2);
-    b.pairs(1);
-    b.reserve(5);
-    assert_eq!(rt; told_of(&b), (2, 61));
-    let mut b = Builder::new(b'D');
-    b.flows(2);
-    b.pairs(1);
-    b.flow(3);
-    assert_eq!(rt; told_of(&b), (2, 61));
-    let mut b = Builder::new(b'D');
-    b.end();
-    assert_eq!(rt; told_of(&b), (2, 4));
+fn fields_come_in_their_order(rt: HostRuntime) -> Result<(), Fail> {
+    let mut b = Builder::new(rt.alloc(), b'D')?;
+    b.flows(2)?;
+    b.reserve(5)?;
+    b.reserve(5)?;
+    assert_eq!(rt; told(&b.bytes), Err((2, 61)));
+    let mut b = Builder::new(rt.alloc(), b'D')?;
+    b.flows(2)?;
+    b.pairs(1)?;
+    b.reserve(5)?;
+    assert_eq!(rt; told(&b.bytes), Err((2, 61)));
+    let mut b = Builder::new(rt.alloc(), b'D')?;
+    b.flows(2)?;
+    b.pairs(1)?;
+    b.flow(3)?;
+    assert_eq!(rt; told(&b.bytes), Err((2, 61)));
+    let mut b = Builder::new(rt.alloc(), b'D')?;
+    b.end()?;
+    assert_eq!(rt; told(&b.bytes), Err((2, 4)));
+    Ok(())
 }

@@ -6,21 +6,11 @@ use std::io;
 // How many advances of 1,000 placings end every search: 7 flows make at most 13,699.
 const ADVANCES: u32 = 14;
 
-fn print_outcome(rt: &HostRuntime, outcome: Outcome) -> io::Result<()> {
-    match outcome {
-        Outcome::Open => print!(rt; "open"),
-        Outcome::Order => print!(rt; "order"),
-        Outcome::NoOrder => print!(rt; "no order"),
-    }
-}
-
 // The flow of each level and its bound.
 fn print_levels<R: Rule>(rt: &HostRuntime, search: &Search<R>) -> io::Result<()> {
     for k in 1..=7u8 {
         if let Ok(level) = search.level(k) {
-            let flow = level.flow;
-            let bound = level.bound;
-            print!(rt; " {flow}:{bound}")?;
+            print!(rt; " {}:{}", level.flow, level.bound)?;
         }
     }
     Ok(())
@@ -30,13 +20,9 @@ fn print_end<R: Rule>(rt: &HostRuntime, search: &Search<R>) -> io::Result<()> {
     print!(rt; " |")?;
     match search.outcome() {
         Outcome::Order => print_levels(rt, search)?,
-        outcome => {
-            print!(rt; " ")?;
-            print_outcome(rt, outcome)?;
-        }
+        outcome => print!(rt; " {outcome}")?,
     }
-    let count = search.count();
-    print!(rt; " | {count} | ")
+    print!(rt; " | {} | ", search.count())
 }
 
 // An advance after the end is refused, and changes nothing.
@@ -54,7 +40,5 @@ pub fn print_search<R: Rule>(rt: &HostRuntime, search: &mut Search<R>) -> io::Re
     let after_five = search.outcome();
     finish(search);
     print_end(rt, search)?;
-    print_outcome(rt, after_four)?;
-    print!(rt; ", ")?;
-    print_outcome(rt, after_five)
+    print!(rt; "{after_four}, {after_five}")
 }

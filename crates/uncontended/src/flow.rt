@@ -2,7 +2,7 @@
 ghost use Rattle.std.specs.Prelude.{◌≡◌};
 ghost use Rattle.uncontended.specs.Uncontended.{in_time};
 
-#[derive(Clone, Copy)]
+#[derive(Clone, Copy, PartialEq, Eq, Debug)]
 pub struct Flow {
     pub label: u16,
     pub deadline: u32,
@@ -14,9 +14,6 @@ impl Flow {
     pub(crate) fn in_time(self) -> Option<u32>
         ensures { result ≡ in_time self }
     {
-        if self.latency > self.deadline {
-            return None;
-        }
-        Some(self.latency)
+        (self.latency <= self.deadline).then_some(self.latency)
     }
 }

@@ -1,69 +1,73 @@
 // The rule: every bound, floor and ceiling is the basic latency, if that is no later than the deadline.
-ghost use Rattle.std.specs.Prelude.{◌≡◌, ◌+◌, ◌≤◌, replicate, if◌then◌else◌, Ok, Err, nat_lt, slice_set};
+ghost use Rattle.std.specs.Prelude.{◌≡◌, ◌≤◌, true, if◌then◌else◌, [], ◌∷◌, ◌++◌, length, Ok, Err, nat_lt};
 ghost use Rattle.chip.specs.declared.refusal.Refusal.TheVariants.{TooManyFlows};
 ghost use Rattle.rule.specs.Lists.{is_flow};
 ghost use Rattle.rule.specs.Meaning.{answer};
-ghost use Rattle.uncontended.specs.Uncontended.{flow_at, uncontended};
+ghost use Rattle.uncontended.specs.Uncontended.{flow_at, in_time, uncontended};
 ghost use Rattle.uncontended.specs.Laws;
 
 use crate::flow::Flow;
-use chip::Refusal;
+use chip::{MAX_FLOWS, Refusal};
 use rule::{FlowSet, Rule, is_flow, is_proper, is_proper_set};
+use table::Table;
 
-// The most flows that a rule may have.
+// The most flows that a rule may have; the table takes the same number as a usize.
 pub const MOST_FLOWS: u8 = 20;
 
 #[derive(Clone, Copy)]
 pub struct Uncontended {
-    count: u8,
-    table: [Flow; 20],
-    ghost some: { 1 ≤ count },
-    ghost few: { count ≤ 20 },
+    flows: Table<Flow, MAX_FLOWS>,
+    ghost some: { 1 ≤ length flows.items },
+    ghost few: { length flows.items ≤ 20 },
 }
 
 impl Uncontended {
     // The rule of one flow.
     pub fn new(first: Flow) -> Uncontended
-        ensures { (result.count ≡ 1) × (result.table ≡ replicate 20 first) }
+        ensures { result.flows.items ≡ first ∷ [] }
     {
         Uncontended {
-            count: 1,
-            table: [first; 20],
+            flows: Table::of(first),
         }
     }
 
     // Takes one more flow, as the next number; refuses a 21st, and then nothing changes.
     pub fn add(&mut self, flow: Flow) -> Result<(), Refusal>
-        ensures reply { result ≡ (if nat_lt self.old.count 20 then Ok tt else Err TooManyFlows) }
-        ensures count { self.new.count ≡ (if nat_lt self.old.count 20 then self.old.count + 1 else self.old.count) }
-        ensures table { self.new.table ≡ (if nat_lt self.old.count 20 then slice_set self.old.table self.old.count flow else self.old.table) }
+        ensures reply { result ≡ (if nat_lt (length self.old.flows.items) 20 then Ok tt else Err TooManyFlows) }
+        ensures flows { self.new.flows.items ≡ (if nat_lt (length self.old.flows.items) 20 then self.old.flows.items ++ flow ∷ [] else self.old.flows.items) }
     {
-        if self.count >= MOST_FLOWS {
-            return Err(Refusal::TooManyFlows);
-        }
-        self.table[self.count as usize] = flow;
-        self.count += 1;
-        Ok(())
+        self.flows.push(flow).map_err(|_| Refusal::TooManyFlows)
     }
 
     // Flow number f; refuses a number that is none.
     fn flow(&self, f: u8) -> Result<Flow, Refusal>
-        ensures { result ≡ answer (is_flow self.now.count f) (flow_at self.now.table f) }
+        ensures { result ≡ answer (is_flow (length self.now.flows.items) f) (flow_at self.now.flows.items f) }
     {
-        if !is_flow(self.count, f) {
+        if !is_flow(self.flows(), f) {
             return Err(Refusal::ImproperQuestion);
         }
-        Ok(self.table[f as usize - 1])
+        Ok(self.flows.as_slice()[f as usize - 1])
+    }
+
+    // The basic latency of flow f, if it is in time; refuses an improper question.
+    fn told(&self, proper: bool, f: u8) -> Result<Option<u32>, Refusal>
+        requires { proper ≡ true → is_flow (length self.now.flows.items) f ≡ true }
+        ensures { result ≡ answer proper (in_time (flow_at self.now.flows.items f)) }
+    {
+        if !proper {
+            return Err(Refusal::ImproperQuestion);
+        }
+        Ok(self.flow(f)?.in_time())
     }
 }
 
 impl Rule for Uncontended {
-    ghost meaning = { λ s. uncontended s.count s.table };
+    ghost meaning = { λ s. uncontended (length s.flows.items) s.flows.items };
 
-    ghost lawful = { λ s. Laws.lawful s.count s.table s.some s.few };
+    ghost lawful = { λ s. Laws.lawful (length s.flows.items) s.flows.items s.some s.few };
 
     fn flows(&self) -> u8 {
-        self.count
+        self.flows.len() as u8
     }
 
     fn deadline(&self, f: u8) -> Result<u32, Refusal> {
@@ -75,17 +79,11 @@ impl Rule for Uncontended {
     }
 
     fn bound(&self, f: u8, above: &[u8]) -> Result<Option<u32>, Refusal> {
-        if !is_proper(self.count, f, above) {
-            return Err(Refusal::ImproperQuestion);
-        }
-        Ok(self.flow(f)?.in_time())
+        self.told(is_proper(self.flows(), f, above), f)
     }
 
     fn floor(&self, f: u8, others: FlowSet) -> Result<Option<u32>, Refusal> {
-        if !is_proper_set(self.count, f, others) {
-            return Err(Refusal::ImproperQuestion);
-        }
-        Ok(self.flow(f)?.in_time())
+        self.told(is_proper_set(self.flows(), f, others), f)
     }
 
     fn ceiling(&self, f: u8, others: FlowSet) -> Result<Option<u32>, Refusal> {

@@ -84,7 +84,7 @@ module _ (key : ℕ → ℕ) where
       each true e p q = best_next g h (best key h hs) hs (ltb-true (key g) (key h) e) p
       each false e p q = best_stays g h (best key g hs) hs r.0 (ltb-false (key g) (key h) e) q
 
-members_none : (i : ℕ) (set : List Bool) → members_from i set ≡ [] → empty set ≡ true
+pub members_none : (i : ℕ) (set : List Bool) → members_from i set ≡ [] → empty set ≡ true
 members_none i [] e = refl
 members_none i (true ∷ set) e = let z : ◌≡◌ {A = ℕ} 0 1 = cc in absurd (omega arith)
 members_none i (false ∷ set) e = members_none (suc i) set e

@@ -6,9 +6,9 @@ ghost use Rattle.sheet.specs.Pairs.{pair_fault};
 ghost use Rattle.sheet.specs.Sheets.{flows_of};
 
 use crate::job::Job;
-use crate::pair_list::PairList;
 use chip::{Refusal, Ticks};
 use sheet::{Letter, Pair, Sheet};
+use table::Table;
 
 impl Job {
     // The job of planning a sheet under a rule, with no reserve and no pair.
@@ -19,7 +19,7 @@ impl Job {
             letter,
             sheet,
             reserve: None,
-            pairs: PairList::none(),
+            pairs: Table::empty(Pair { first: 0, later: 0 }),
         }
     }
 
@@ -39,7 +39,7 @@ impl Job {
         if !self.sheet.has_pair(pair) {
             return Err(Refusal::PairUnknown);
         }
-        self.pairs.add(pair)
+        self.pairs.push(pair).map_err(|_| Refusal::TooManyPairs)
     }
 
     // Ends the job and gives its sheet back.

@@ -37,6 +37,13 @@ impl Job {
         self.pairs.len()
     }
 
+    // The pairs in their order.
+    pub fn pairs(&self) -> &[Pair]
+        ensures { result.now ≡ (contents self.now).pairs }
+    {
+        self.pairs.as_slice()
+    }
+
     // The pair at a place, counted from 0; none past the last.
     pub fn pair(&self, place: usize) -> Option<Pair>
         ensures { result ≡ slice_get (contents self.now).pairs place }

@@ -1,58 +1,72 @@
-// How the table of who shares with whom is made: each route once, then each pair.
-ghost use Rattle.std.specs.Prelude.{◌≡◌, ℕ, ◌+◌, ◌<◌, ◌≤◌, true, map};
-ghost use Rattle.rule.specs.FlowSets.{marks_of};
-ghost use Rattle.rule.specs.Lists.{is_flow};
-ghost use Rattle.latency.specs.Chips.{chip};
-ghost use Rattle.interference.specs.Tables.{chip_of, row, routed, sharers};
+// How a chip is made of the flows of a sheet: their routes, then who shares with whom.
+ghost use Rattle.std.specs.Prelude.{◌≡◌, ℕ, ◌≤◌, length, map, take};
+ghost use Rattle.sheet.specs.Sheets.{flows_of};
+ghost use Rattle.latency.specs.Chips.{chip, Sharers};
+ghost use Rattle.interference.specs.Tables.{routed};
 
 use crate::traffic::Traffic;
 use chip::{Flow, Route};
 use rule::FlowSet;
+use sheet::Sheet;
 
-// The route of every flow of a table.
-fn routes_of(flows: &[Flow; 20]) -> [Route; 20]
-    ensures { routed result ≡ map (λ f. f.parameters) flows.now }
+// The flows as a table; the places past the last flow hold the first again.
+fn table_of(flows: &[Flow]) -> [Flow; 20]
+    requires { (1 ≤ length flows.now) × (length flows.now ≤ 20) }
+    ensures { take (length flows.now) result ≡ flows.now }
 {
-    let mut routes = [Route::of(flows[0]); 20];
-    for i in 1..20 {
-        routes[i] = Route::of(flows[i]);
-    }
-    routes
+    let mut table = [flows[0]; 20];
+    table[..flows.len()].copy_from_slice(flows);
+    table
 }
 
-// The flows, out of the first `count`, that share with flow f + 1.
-fn sharers_of(routes: &[Route; 20], count: u8, f: usize) -> FlowSet
-    requires { (count ≤ 20) × (f < 20) }
-    ensures { marks_of result ≡ sharers (routed routes.now) (f + 1) count }
+// The route of each flow of a table.
+fn routes_of(table: [Flow; 20]) -> [Route; 20]
+    ensures { routed result ≡ map (λ f. f.parameters) table }
 {
+    table.map(|flow| Route::of(flow))
+}
+
+// The flows, out of those whose routes these are, that share with a flow.
+fn sharers_of(routes: &[Route], own: Flow) -> FlowSet
+    requires { length routes.now ≤ 20 }
+    ensures { Sharers routes.now own result }
+{
+    let route = Route::of(own);
     let mut set = FlowSet::none();
-    for g in 0..count {
-        if routes[g as usize].shares(&routes[f]) {
-            set = set.with(g + 1);
+    for (g, other) in routes.iter().enumerate() {
+        if other.shares(&route) {
+            set = set.with(g as u8 + 1);
         }
     }
     set
 }
 
-// For each of the first `count` flows the set of those that share with it.
-fn near_of(routes: &[Route; 20], count: u8) -> [FlowSet; 20]
-    requires { count ≤ 20 }
-    ensures { (f : ℕ) → is_flow count f ≡ true → row result f ≡ sharers (routed routes.now) f count }
-{
-    let mut near = [FlowSet::none(); 20];
-    for f in 0..count {
-        near[f as usize] = sharers_of(routes, count, f as usize);
-    }
-    near
-}
-
 impl Traffic {
-    // The first `count` flows of a table.
-    pub(crate) fn new(flows: [Flow; 20], count: u8) -> Traffic
-        requires { (1 ≤ count) × (count ≤ 20) }
-        ensures { chip result ≡ chip_of count flows }
+    // The chip of 1 to 20 flows, in their order.
+    fn new(flows: &[Flow]) -> Traffic
+        requires { (1 ≤ length flows.now) × (length flows.now ≤ 20) }
+        ensures { chip result ≡ map (λ f. f.parameters) flows.now }
     {
-        let near = near_of(&routes_of(&flows), count);
-        Traffic { flows, count, near }
+        let table = table_of(flows);
+        let routes = routes_of(table);
+        let listed = &routes[..flows.len()];
+        let near = table.map(
+            |own| -> FlowSet
+                requires { length listed.now ≤ 20 }
+                ensures { Sharers listed.entry.now own result }
+            { sharers_of(listed, own) },
+        );
+        Traffic {
+            flows: table,
+            count: flows.len() as u8,
+            near,
+        }
+    }
+
+    // The flows of a sheet.
+    pub(crate) fn of(sheet: &Sheet) -> Traffic
+        ensures { chip result ≡ flows_of sheet.now }
+    {
+        Traffic::new(sheet.flows())
     }
 }

@@ -1,14 +1,15 @@
 // Pairs come in one by one, and hold flows back.
-ghost use Rattle.std.specs.Prelude.{◌≡◌, ◌<◌, ◌≤◌, ◌&&◌, [], ◌∷◌, ◌++◌};
+ghost use Rattle.std.specs.Prelude.{◌≡◌, ◌≤◌, ◌&&◌, [], ◌∷◌, ◌++◌, map};
 ghost use Rattle.rule.specs.FlowSets.{marks_of};
 ghost use Rattle.rule.specs.Lists.{has, is_flow};
 ghost use Rattle.precedence.specs.Held.{pairs_of, after_add};
-ghost use Rattle.precedence.specs.Pairs.{add_reply, held_back};
+ghost use Rattle.precedence.specs.Pairs.{add_reply, held_back, later_sets};
 
 use crate::pair::Pair;
-use crate::pairs::{MOST_PAIRS, Pairs};
+use crate::pairs::Pairs;
 use chip::Refusal;
 use rule::{FlowSet, is_flow};
+use table::Table;
 
 impl Pairs {
     // No pair at all.
@@ -17,27 +18,20 @@ impl Pairs {
     {
         let none = FlowSet::none();
         Pairs {
-            list: [Pair { first: 0, later: 0 }; 16],
-            count: 0,
+            list: Table::empty(Pair { first: 0, later: 0 }),
             later: [none; 20],
         }
     }
 
-    // The pairs with one more after them.
-    fn joined(&self, pair: Pair) -> Pairs
-        requires { (self.now.count < 16) × ((1 ≤ pair.first) × (pair.first ≤ 20)) }
-        ensures { pairs_of result ≡ pairs_of self.now ++ pair ∷ [] }
+    // For each flow the set of those that it must precede, with one more pair.
+    fn joined(&self, pair: Pair) -> [FlowSet; 20]
+        requires { (1 ≤ pair.first) × (pair.first ≤ 20) }
+        ensures { map marks_of result ≡ later_sets 20 1 (pairs_of self.now ++ pair ∷ []) }
     {
-        let mut list = self.list;
-        list[self.count as usize] = pair;
         let mut later = self.later;
         let i = pair.first as usize - 1;
         later[i] = later[i].with(pair.later);
-        Pairs {
-            list,
-            count: self.count + 1,
-            later,
-        }
+        later
     }
 
     // Takes one more pair of flows of 1 to `flows`.
@@ -49,10 +43,10 @@ impl Pairs {
         if !is_flow(flows, pair.first) || !is_flow(flows, pair.later) || pair.first == pair.later {
             return Err(Refusal::PairUnknown);
         }
-        if self.count >= MOST_PAIRS {
-            return Err(Refusal::TooManyPairs);
-        }
-        *self = self.joined(pair);
+        let mut list = self.list;
+        list.push(pair).map_err(|_| Refusal::TooManyPairs)?;
+        let later = self.joined(pair);
+        *self = Pairs { list, later };
         Ok(())
     }
 

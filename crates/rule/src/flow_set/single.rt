@@ -5,7 +5,8 @@ ghost use Rattle.rule.specs.FlowSets.{marks_of, digit_of, put, Popped};
 
 use crate::flow_set::{FlowSet, MOST_FLOWS};
 
-// The number whose one binary digit marks flow g; 0 if there is no flow g.
+// The number whose one binary digit marks flow g. A number that is no flow has no digit: its 0 is the empty set, and no
+// code.
 fn digit_of(g: u8) -> u32
     ensures value { result ≡ digit_of 20 g }
     ensures small { result < 2 ^ 20 }

@@ -17,11 +17,7 @@ impl FlowSet {
     pub fn of(list: &[u8]) -> FlowSet
         ensures { marks_of result ≡ marks list.now }
     {
-        let mut set = FlowSet::none();
-        for g in list {
-            set = set.with(*g);
-        }
-        set
+        list.iter().fold(FlowSet::none(), |set, g| set.with(*g))
     }
 
     // The flows up to n.

@@ -6,10 +6,9 @@ ghost use Rattle.search.specs.Searches.{Walked};
 ghost use Rattle.search.specs.Tables.{standing};
 ghost use Rattle.walk.specs.Walk.{count_of};
 
-use crate::levels::order;
 use crate::plan::{same_labels, write_no_order, write_order};
 use crate::searching::{Level, Search};
-use crate::tables::Outcome;
+use crate::tables::{Outcome, Stage};
 use chip::Refusal;
 use rule::Rule;
 
@@ -18,7 +17,11 @@ impl<R: Rule> Search<R> {
     pub fn outcome(&self) -> Outcome
         ensures { result ≡ outcome_of (standing self.now.walk) }
     {
-        self.walk.outcome
+        match self.walk.stage {
+            Stage::Open => Outcome::Open,
+            Stage::Order(_) => Outcome::Order,
+            Stage::NoOrder => Outcome::NoOrder,
+        }
     }
 
     // How many placings were made, those of flows unplaced again too.
@@ -32,7 +35,7 @@ impl<R: Rule> Search<R> {
     pub fn level(&self, k: u8) -> Result<Level, Refusal>
         ensures { Walked (R.Rule.meaning self.now.rule) self.now.walk → result ≡ level_reply (R.Rule.meaning self.now.rule) (standing self.now.walk) k }
     {
-        let Outcome::Order = self.walk.outcome else {
+        let Stage::Order(bounds) = &self.walk.stage else {
             return Err(Refusal::NoOutcome);
         };
         if k < 1 || k > self.walk.flows {
@@ -41,7 +44,7 @@ impl<R: Rule> Search<R> {
         let i = k as usize - 1;
         Ok(Level {
             flow: self.walk.placed[i],
-            bound: self.walk.bounds[i],
+            bound: bounds[i],
         })
     }
 
@@ -51,10 +54,17 @@ impl<R: Rule> Search<R> {
         ensures reply { Walked (R.Rule.meaning self.now.rule) self.now.walk → result ≡ plan_reply (R.Rule.meaning self.now.rule) (standing self.now.walk) (length buffer.old) }
         ensures after { Walked (R.Rule.meaning self.now.rule) self.now.walk → buffer.new ≡ plan_after (R.Rule.meaning self.now.rule) (standing self.now.walk) buffer.old }
     {
-        match self.walk.outcome {
-            Outcome::Open => Err(Refusal::NoOutcome),
-            Outcome::Order => write_order(&self.rule, &self.walk, buffer),
-            Outcome::NoOrder => write_no_order(self.walk.count, buffer),
+        let count = self.walk.count;
+        match &self.walk.stage {
+            Stage::Open => Err(Refusal::NoOutcome),
+            Stage::Order(bounds) => write_order(
+                &self.rule,
+                self.walk.order(),
+                bounds,
+                count,
+                buffer,
+            ),
+            Stage::NoOrder => write_no_order(count, buffer),
         }
     }
 
@@ -63,13 +73,13 @@ impl<R: Rule> Search<R> {
     pub fn same_plan<Q: Rule>(&self, other: &Search<Q>) -> Result<bool, Refusal>
         ensures { result ≡ same_reply (R.Rule.meaning self.now.rule) (standing self.now.walk) (Q.Rule.meaning other.now.rule) (standing other.now.walk) }
     {
-        match (self.walk.outcome, other.walk.outcome) {
+        match (self.outcome(), other.outcome()) {
             (Outcome::Order, Outcome::Order) => {
                 Ok(same_labels(
                     &self.rule,
-                    order(&self.walk),
+                    self.walk.order(),
                     &other.rule,
-                    order(&other.walk),
+                    other.walk.order(),
                 ))
             }
             (Outcome::NoOrder, Outcome::NoOrder) => Ok(true),

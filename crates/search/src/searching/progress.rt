@@ -6,9 +6,8 @@ ghost use Rattle.search.specs.Tables.{standing};
 ghost use Rattle.walk.specs.Walk.{after, steps};
 
 use crate::opening::start;
-use crate::placing::step_on;
 use crate::searching::Search;
-use crate::tables::Outcome;
+use crate::tables::Stage;
 use chip::Refusal;
 use rule::Rule;
 
@@ -34,10 +33,10 @@ impl<R: Rule> Search<R> {
         if placings == 0 {
             return Err(Refusal::AdvanceOfZero);
         }
-        let Outcome::Open = self.walk.outcome else {
+        let Stage::Open = self.walk.stage else {
             return Err(Refusal::AdvanceAfterEnd);
         };
-        step_on(&self.rule, &mut self.walk, placings);
+        self.walk.step_on(&self.rule, placings);
         Ok(())
     }
 

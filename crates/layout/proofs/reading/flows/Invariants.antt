@@ -1,4 +1,4 @@
-use Rattle.std.proofs.Common.{◌≡◌, ◌-◌, true, length}
+use Rattle.std.proofs.Common.{◌≡◌, true, length}
 use Rattle.sheet.specs.Sheets.{drafted}
 use Rattle.sheet.specs.declared.letter.Letter.{Letter}
 use Rattle.layout.specs.declared.entry.Stage.TheVariants.{Flows}
@@ -10,9 +10,8 @@ use Rattle.layout.proofs.reading.flows.Given as goal
 
 abbrev pub invariant-loop-next : goal.invariant-loop-next
 invariant-loop-next l =
-    (l.reader.bytes.now ≡ l.initial.reader.bytes.now)
-    × (allows Flows (tag_of l.initial.next) ≡ true → allows Flows (tag_of l.next) ≡ true)
-    × ((from : State) (x : Letter) → Underway from l.initial.reader.bytes.now l.initial.reader.field l.initial.reader.at (flows_alone x (drafted l.initial.draft)) l.initial.next → Underway from l.initial.reader.bytes.now l.reader.field l.reader.at (flows_alone x (drafted l.draft)) l.next)
+    (allows Flows (tag_of l.initial.next) ≡ true → allows Flows (tag_of l.next) ≡ true)
+    × ((from : State) (x : Letter) → Underway from l.initial.reader (flows_alone x (drafted l.initial.draft)) l.initial.next → Underway from l.reader (flows_alone x (drafted l.draft)) l.next)
 
 abbrev pub decreases-loop-next : goal.decreases-loop-next
-decreases-loop-next l = length l.reader.bytes.now - l.reader.at
+decreases-loop-next l = length l.reader.left

@@ -2,10 +2,10 @@
 use Rattle.std.proofs.Common.{◌≡◌, drop}
 use Rattle.precedence.specs.Held.{pairs_of}
 use Rattle.any_rule.specs.AnyRules.{meaning_any}
-use Rattle.planner.specs.JobRules.{taken}
+use Rattle.planner.specs.JobRules.{offers, taken}
 use Rattle.planner.proofs.job_rule.with_pairs.Given as goal
 
-abbrev pub invariant-loop-pair : goal.invariant-loop-pair
-invariant-loop-pair l =
-    (taken (meaning_any l.initial.rule.rule.rule).flows (pairs_of l.rule.pairs) (drop l.pair-index l.pairs) ≡ taken (meaning_any l.initial.rule.rule.rule).flows (pairs_of l.initial.rule.pairs) l.pairs)
+abbrev pub invariant-loop-place : goal.invariant-loop-place
+invariant-loop-place l =
+    (taken (meaning_any l.initial.rule.rule.rule).flows (pairs_of l.rule.pairs) (offers (drop l.place-index l.pairs)) ≡ taken (meaning_any l.initial.rule.rule.rule).flows (pairs_of l.initial.rule.pairs) (offers l.pairs))
     × (l.rule.rule ≡ l.initial.rule.rule)

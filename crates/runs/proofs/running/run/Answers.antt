@@ -1,8 +1,10 @@
 -- Why `run` meets its contract. Assumes nothing.
-use Rattle.std.proofs.Common.{◌≡◌, sym, refl, ap, ◌∙◌, subst, arith}
+use Rattle.std.proofs.Common.{◌≡◌, get_or, take, sym, refl, ap, ◌∙◌, subst, arith}
+use Rattle.std.proofs.lemmas.List.{get_or-take, length-take}
+use Rattle.runs.specs.declared.calls.Call.TheVariants.{Advance}
 use Rattle.rule.specs.Meaning.{Meaning}
 use Rattle.std.specs.Option.{option_map}
-use Rattle.runs.specs.Runs.{call_at, rival_of}
+use Rattle.runs.specs.Runs.{rival_of}
 use Rattle.search.specs.Searches.{Walked}
 use Rattle.search.specs.Tables.{standing}
 use Rattle.walk.specs.Walk.{after}
@@ -30,10 +32,12 @@ loop-i-preserved g c =
     let next = c.make.new.search.walk in
     let e = ap g.R.Rule.meaning c.loop-i.invariant.0 in
     let b = c.min-made.ensures in
-    let t = c.loop-i-test.true in (
+    let l = length-take c.min-made.result calls in
+    let t = c.loop-i-test.true in
+    let call = get_or (take c.min-made.result calls) i (Advance 0) in (
       c.make.ensures.held ∙ c.loop-i.invariant.0,
-      running_more m (g.met.R.Rule.lawful s.rule) other calls c.args.replies.now c.args.plan.now c.loop-i.replies c.loop-i.plan w i c.loop-i.invariant.1 (call_at calls i) refl (omega arith) (omega arith) next c.make.new.plan c.make.result
-          (made_under (g.R.Rule.meaning c.loop-i.search.rule) m other (call_at calls i) w next c.loop-i.plan c.make.new.plan c.make.result e c.make.ensures.made)
+      running_more m (g.met.R.Rule.lawful s.rule) other calls c.args.replies.now c.args.plan.now c.loop-i.replies c.loop-i.plan w i c.loop-i.invariant.1 call (get_or-take c.min-made.result calls i (Advance 0) (omega arith)) (omega arith) (omega arith) next c.make.new.plan c.make.result
+          (made_under (g.R.Rule.meaning c.loop-i.search.rule) m other call w next c.loop-i.plan c.make.new.plan c.make.result e c.make.ensures.made)
           c.make.auto.plan,
     )
 
@@ -47,6 +51,7 @@ returns g c =
     let e = ap g.R.Rule.meaning c.open-search.ensures.held in
     let i = c.loop-i.i in
     let b = c.min-made.ensures in
+    let l = length-take c.min-made.result c.args.calls.now in
     let t = c.loop-i-test.false in
     let u = c.loop-i.auto.i-end in
     record {

@@ -1,12 +1,10 @@
 -- Why `Settled::place` meets its contract. Assumes nothing.
 use Rattle.std.proofs.Common.{◌-◌}
-use Rattle.std.proofs.lemmas.List.{length-set}
-use Rattle.interference.proofs.Jitters.{set_small}
+use Rattle.std.proofs.lemmas.List.{map-set}
 use Rattle.latency.proofs.settled.Settled.place.Goals as goal
 
-pub invariant_of-self : goal.invariant_of-self
-invariant_of-self c =
-    record {
-      sized = (simp length-set c.args.self.now.sized.0, simp length-set c.args.self.now.sized.1);
-      small = set_small c.args.self.now.bounds (c.args.f - 1) c.args.r 1000000 c.requires.1 c.args.self.now.small;
-    }
+pub returns-clause-over : goal.returns-clause-over
+returns-clause-over c = map-set (λ x. x.over) c.args.self.now.table (c.args.f - 1) _
+
+pub returns-clause-bounds : goal.returns-clause-bounds
+returns-clause-bounds c = map-set (λ x. x.bound) c.args.self.now.table (c.args.f - 1) _

@@ -1,5 +1,5 @@
 -- Why `Traffic::flow` meets its contract. Assumes nothing.
-use Rattle.std.proofs.Common.{◌-◌, get_or, sym, ◌∙◌, arith}
+use Rattle.std.proofs.Common.{sym, arith}
 use Rattle.latency.specs.ChipsLemmas.{chip_range, chip_flow}
 use Rattle.latency.proofs.traffic.Traffic.flow.Goals as goal
 
@@ -10,8 +10,4 @@ pub bounds-self-f : goal.bounds-self-f
 bounds-self-f c = omega (arith, chip_range c.args.self.now c.args.f c.requires)
 
 pub returns : goal.returns
-returns c =
-    record {
-      value = c.parameters.ensures ∙ sym (chip_flow c.args.self.now c.args.f c.index-self-f.result c.requires);
-      times = rw c.parameters.ensures (get_or c.args.self.now.flows (c.args.f - 1) c.index-self-f.result).times;
-    }
+returns c = sym (chip_flow c.args.self.now c.args.f c.index-self-f.result c.requires)

@@ -1,37 +1,34 @@
 -- Why `Traffic::packets` meets its contract. Assumes nothing.
-use Rattle.std.proofs.Common.{◌≡◌, ℕ, ◌+◌, length, ap, arith}
-use Rattle.rule.specs.FlowSets.{marks_of, members}
+use Rattle.std.proofs.Common.{rules, ◌≡◌, ℕ, true, length, ap, ◌∙◌, arith}
+use Rattle.std.proofs.lemmas.Iterator.{YieldsList-from_map}
+use Rattle.std.proofs.lemmas.Iterator.Consumers.{sum_from_yields_List, fits_from_yields_list}
+use Rattle.std.proofs.lemmas.Iterator.Adapters.{serves_from_places}
+use Rattle.rule.specs.Lists.{is_flow}
+use Rattle.rule.specs.FlowSets.{marks_of, members, flows_left}
 use Rattle.latency.specs.Chips.{chip}
 use Rattle.interference.specs.Interference.{flow}
 use Rattle.interference.specs.Tables.{total}
-use Rattle.interference.proofs.Walking.{within_flows, flows_head, flows_tail, members_few}
+use Rattle.interference.proofs.Walking.{within_flows}
+use Rattle.latency.proofs.Sums.{flow_at, flows_come, sum_total, packets_few}
 use Rattle.latency.proofs.traffic.Traffic.packets.Goals as goal
 
-pub loop-j-init : goal.loop-j-init
-loop-j-init c = (omega arith, omega (arith, members_few c.args.counted), within_flows (length (chip c.args.self.now)) (marks_of c.args.counted) c.requires)
+pub sum-requires-clause-can : goal.sum-requires-clause-can
+sum-requires-clause-can c = (
+  tt,
+  serves_from_places (flows_come c.map.result.iter c.args.counted (ap flows_left c.map.ensures.source ∙ c.iter.ensures)) (λ x q k. search rules) (λ x k inside e.
+      let n : ℕ = length (chip c.args.self.now) in
+      let asked : is_flow n x ≡ true = flow_at n (members (marks_of c.args.counted)) x k (within_flows n (marks_of c.args.counted) c.requires) inside e in search rules),
+)
 
-pub flow-sum-requires : goal.flow-sum-requires
-flow-sum-requires c = flows_head (length (chip c.args.self.now)) c.in-Some.j (members (marks_of c.loop-j.left)) (members (marks_of c.pop.new.self)) c.in-Some.ensures.0 c.loop-j.invariant.2
-
-pub overflow_add-sum : goal.overflow_add-sum
-overflow_add-sum c = omega (arith, c.loop-j.invariant.1, c.flow-sum.ensures.times)
-
-pub loop-j-preserved : goal.loop-j-preserved
-loop-j-preserved c =
+pub sum-requires-clause-fits : goal.sum-requires-clause-fits
+sum-requires-clause-fits c =
     let w : ℕ → ℕ = λ j. (flow (chip c.args.self.now) j).latency in
-    let e = c.in-Some.ensures.0 in
-    let sums : total w (members (marks_of c.loop-j.left)) ≡ w c.in-Some.j + total w (members (marks_of c.pop.new.self)) = ap (total w) e in
-    let own : c.flow-sum.result.latency ≡ w c.in-Some.j = ap (λ p. p.latency) c.flow-sum.ensures.value in (
-      omega (arith, sums, own, c.loop-j.invariant.0),
-      omega (arith, ap length e, c.loop-j.invariant.1, c.flow-sum.ensures.times),
-      flows_tail (length (chip c.args.self.now)) c.in-Some.j (members (marks_of c.loop-j.left)) (members (marks_of c.pop.new.self)) e c.loop-j.invariant.2,
-    )
-
-pub loop-j-smaller : goal.loop-j-smaller
-loop-j-smaller c = omega (arith, ap length c.in-Some.ensures.0)
+    fits_from_yields_list c.map.result 4294967296 (YieldsList-from_map _ w (flows_come c.map.result.iter c.args.counted (ap flows_left c.map.ensures.source ∙ c.iter.ensures)) c.map.ensures.closure (λ x r q k. search rules)) (omega (arith, sum_total w (members (marks_of c.args.counted)), packets_few c.args.self.now c.args.counted c.requires))
 
 pub returns : goal.returns
 returns c =
     let w : ℕ → ℕ = λ j. (flow (chip c.args.self.now) j).latency in
-    let e = c.in_default.ensures.0 in
-    record { value = omega (arith, ap (total w) e, c.loop-j.invariant.0); few = omega (arith, c.loop-j.invariant.1) }
+    let value : c.sum.result ≡ total w (members (marks_of c.args.counted)) =
+    sum_from_yields_List _ _ c.sum.ensures.ran (YieldsList-from_map _ w (flows_come c.map.result.iter c.args.counted (ap flows_left c.map.ensures.source ∙ c.iter.ensures)) c.map.ensures.closure (λ x r q k. search rules))
+    ∙ sum_total w (members (marks_of c.args.counted)) in
+    record { value = value; few = omega (arith, value, packets_few c.args.self.now c.args.counted c.requires) }

@@ -1,15 +1,11 @@
--- Why `taken` meets its contract. Assumes nothing.
-use Rattle.std.proofs.Common.{◌+◌, refl, arith}
-use Rattle.interference.proofs.Loads.{part_small}
+use Rattle.std.proofs.Common.{arith}
+use Rattle.chip.proofs.Sound.{flow_times}
+use Rattle.latency.proofs.Sums.{taken_few}
 use Rattle.latency.proofs.traffic.solving.taken.Goals as goal
 
-pub overflow_mul-result : goal.overflow_mul-result
-overflow_mul-result c =
-    omega (arith, part_small (c.args.r + (c.args.p.jitter + c.args.extra)) c.args.p.period c.args.p.latency (omega (arith, c.requires.0)), c.requires)
+-- what a flow takes is few
+pub returns-clause-few : goal.returns-clause-few
+returns-clause-few c = taken_few c.parameters-p.result c.args.extra c.args.r (rw c.parameters-p.ensures (flow_times c.args.flow)) c.requires.0 c.requires.1
 
-pub returns : goal.returns
-returns c =
-    record {
-      value = refl;
-      few = omega (arith, part_small (c.args.r + (c.args.p.jitter + c.args.extra)) c.args.p.period c.args.p.latency (omega (arith, c.requires.0)), c.requires);
-    }
+pub overflow_mul-result : goal.overflow_mul-result
+overflow_mul-result c = omega (arith, returns-clause-few c)

@@ -1,5 +1,5 @@
 -- Why `Pairs::hold_back` meets its contract. Assumes nothing.
-use Rattle.std.proofs.Common.{Bool, not, ◌&&◌, List, take, sym, ap, ◌∙◌}
+use Rattle.std.proofs.Common.{Bool, not, ◌&&◌, List, sym, ap, ◌∙◌}
 use Rattle.rule.specs.Lists.{has}
 use Rattle.rule.specs.FlowSets.{marks_of, empty, both}
 use Rattle.rule.proofs.Distinct.{flow_range}
@@ -12,7 +12,7 @@ pub returns-then-is_flow : goal.returns-then-is_flow
 returns-then-is_flow c =
     let s = c.args.self.now in
     let f = c.args.f in
-    let ps = take s.count s.list in
+    let ps = s.list.items in
     let flow = sym c.if-is_flow.ensures in
     let r = flow_range 20 f flow in
     c.intersects.ensures

@@ -1,46 +1,54 @@
 -- Why `ReserveRule::bounds` meets its contract. Assumes nothing.
-use Rattle.std.proofs.Common.{◌≡◌, ℕ, sym, arith}
-use Rattle.rule.proofs.Below.{below, below_most, deadline_told}
-use Rattle.reserve.specs.Reserved.{reserve_more, reserve_ends, reserve_all}
+use Rattle.std.proofs.Common.{◌≡◌, ℕ, arith}
+use Rattle.std.proofs.lemmas.List.{length_push}
+use Rattle.rule.proofs.Below.{below}
+use Rattle.rule.proofs.Beside.{beside, beside_end}
+use Rattle.reserve.specs.Reserved.{raised, reserve_more, reserve_ends, reserve_all}
 use Rattle.reserve.proofs.reserve.ReserveRule.bounds.Goals as goal
 
-pub bounds-list-i : goal.bounds-list-i
-bounds-list-i g c =
-    let s = below c.args.list.now c.in_ok-below.below (g.met.R.Rule.lawful c.args.self.now.rule) c.in_ok-below.ensures in
-    omega (arith, (below_most (g.R.Rule.meaning c.args.self.now.rule) c.args.list.now c.in_ok-below.below s).0)
-
-pub returns-in_err-deadline : goal.returns-in_err-deadline
-returns-in_err-deadline g c =
+pub returns-in_err-ticks : goal.returns-in_err-ticks
+returns-in_err-ticks g c =
     let m = g.R.Rule.meaning c.args.self.now.rule in
     let xs = c.args.list.now in
-    let b = c.in_ok-below.below in
-    let s = below xs b (g.met.R.Rule.lawful c.args.self.now.rule) c.in_ok-below.ensures in
-    let d = deadline_told m xs b s c.loop-i.i c.deadline.result (omega (arith, (below_most m xs b s).0)) c.deadline.ensures in
-    let w = c.in_err-deadline.was in
+    let bs = c.as_slice.result.now in
+    let t = c.args.self.now.ticks.count in
+    let s = below xs c.in_ok-below.below bs (g.met.R.Rule.lawful c.args.self.now.rule) c.in_ok-below.ensures c.as_slice.ensures in
+    let at = beside xs bs c.loop-f.yielded c.into_iter-f-iterator.result c.loop-f.f-iterator c.next.new.self c.next.result (cc) (cc) c.loop-f.yielded_by c.next.ensures.steps (c.in-Some.f, c.in-Some.ticks) c.in-Some.is in
+    let b = raised t m xs bs s _ _ _ at c.raise.result c.raise.ensures in
+    let w = c.in_err-ticks.was in
     let z : ◌≡◌ {A = ℕ} 0 1 = cc in
     absurd (omega arith)
 
-pub returns-in-None : goal.returns-in-None
-returns-in-None g c =
+pub returns-in-None-2 : goal.returns-in-None-2
+returns-in-None-2 g c =
     let m = g.R.Rule.meaning c.args.self.now.rule in
     let xs = c.args.list.now in
-    let b = c.in_ok-below.below in
-    let s = below xs b (g.met.R.Rule.lawful c.args.self.now.rule) c.in_ok-below.ensures in
-    reserve_ends c.args.self.now.ticks.count m xs b s c.loop-i.i c.loop-i.told c.loop-i.invariant c.in_ok-deadline.deadline c.in_ok-deadline.ensures c.loop-i-test.true (sym c.in-None.ensures)
+    let bs = c.as_slice.result.now in
+    let t = c.args.self.now.ticks.count in
+    let s = below xs c.in_ok-below.below bs (g.met.R.Rule.lawful c.args.self.now.rule) c.in_ok-below.ensures c.as_slice.ensures in
+    let at = beside xs bs c.loop-f.yielded c.into_iter-f-iterator.result c.loop-f.f-iterator c.next.new.self c.next.result (cc) (cc) c.loop-f.yielded_by c.next.ensures.steps (c.in-Some.f, c.in-Some.ticks) c.in-Some.is in
+    let b = raised t m xs bs s _ _ _ at c.raise.result c.raise.ensures in
+    let w = c.in_ok-ticks.was in
+    reserve_ends t m xs bs s _ c.loop-f.told c.loop-f.invariant at.more (cc)
 
-pub loop-i-preserved : goal.loop-i-preserved
-loop-i-preserved g c =
+pub loop-f-preserved : goal.loop-f-preserved
+loop-f-preserved g c =
     let m = g.R.Rule.meaning c.args.self.now.rule in
     let xs = c.args.list.now in
-    let b = c.in_ok-below.below in
-    let s = below xs b (g.met.R.Rule.lawful c.args.self.now.rule) c.in_ok-below.ensures in
-    rw c.push.ensures
-    (reserve_more c.args.self.now.ticks.count m xs b s c.loop-i.i c.loop-i.told c.loop-i.invariant c.in_ok-deadline.deadline c.in_ok-deadline.ensures c.loop-i-test.true c.in-Some.ticks (sym c.in-Some.ensures))
+    let bs = c.as_slice.result.now in
+    let t = c.args.self.now.ticks.count in
+    let s = below xs c.in_ok-below.below bs (g.met.R.Rule.lawful c.args.self.now.rule) c.in_ok-below.ensures c.as_slice.ensures in
+    let at = beside xs bs c.loop-f.yielded c.into_iter-f-iterator.result c.loop-f.f-iterator c.next.new.self c.next.result (cc) (cc) c.loop-f.yielded_by c.next.ensures.steps (c.in-Some.f, c.in-Some.ticks) c.in-Some.is in
+    let b = raised t m xs bs s _ _ _ at c.raise.result c.raise.ensures in
+    let w = c.in_ok-ticks.was in
+    rw (c.push.ensures, length_push c.loop-f.yielded (c.in-Some.f, c.in-Some.ticks))
+    (reserve_more t m xs bs s _ c.loop-f.told c.loop-f.invariant at.more c.in-Some-2.ticks (cc))
 
 pub returns : goal.returns
 returns g c =
     let m = g.R.Rule.meaning c.args.self.now.rule in
     let xs = c.args.list.now in
-    let b = c.in_ok-below.below in
-    let s = below xs b (g.met.R.Rule.lawful c.args.self.now.rule) c.in_ok-below.ensures in
-    reserve_all c.args.self.now.ticks.count m xs b s c.loop-i.i c.loop-i.told c.loop-i.invariant (omega arith)
+    let bs = c.as_slice.result.now in
+    let s = below xs c.in_ok-below.below bs (g.met.R.Rule.lawful c.args.self.now.rule) c.in_ok-below.ensures c.as_slice.ensures in
+    reserve_all c.args.self.now.ticks.count m xs bs s _ c.loop-f.told c.loop-f.invariant
+    (beside_end xs bs c.loop-f.yielded c.into_iter-f-iterator.result c.loop-f.f-iterator c.next.new.self c.next.result (cc) (cc) c.loop-f.yielded_by c.next.ensures.steps m s c.in-None.is)

@@ -12,5 +12,5 @@ returns-in_default g c =
       reply = refused_after w c.args.placings c.if-placings-eq0.false c.in_default.not-Open;
       held = refl;
       walked = λ v. v;
-      stands = λ v. sym (steps_stay (g.R.Rule.meaning c.args.self.now.rule) c.args.placings (standing w) (standing_ended w w.outcome c.in_default.not-Open));
+      stands = λ v. sym (steps_stay (g.R.Rule.meaning c.args.self.now.rule) c.args.placings (standing w) (standing_ended w w.stage c.in_default.not-Open));
     }
