@@ -42,6 +42,19 @@ def short(name):
     return name.replace("crates/", "").replace("/src", "")
 
 
+def parameters(head):
+    """The parameters of a function, from what follows its name: its generics are passed over."""
+    depth = 0
+    for i, c in enumerate(head):
+        if c == "<":
+            depth += 1
+        elif c == ">" and head[i - 1] != "-":
+            depth -= 1
+        elif c == "(" and depth == 0:
+            return head[i:]
+    return ""
+
+
 def functions(files):
     """(file, name, parameters, clauses, body) of each function."""
     out = []
@@ -55,7 +68,7 @@ def functions(files):
                 closed = re.compile(rf"(?m)^{m.group(1)}\}}").search(text, opened.end())
                 body = text[opened.end(): closed.start()]
             clauses = re.findall(r"(?m)^\s*(?:requires|ensures)\*?\s*\w*\s*\{(.*)\}\s*$", head)
-            out.append((short(name), m.group(2), head[head.find("("):], [c.strip() for c in clauses], plain(body)))
+            out.append((short(name), m.group(2), parameters(head[m.end() - m.start():]), [c.strip() for c in clauses], plain(body)))
     return out
 
 
@@ -131,7 +144,7 @@ def point_5(files):
                 part = part.strip()
                 if len(part) > 8 and not part.startswith("result"):
                     clauses[part].append(f"{f} {n}")
-        names = re.findall(r"(\w+): ([^,)]+(?:<[^>]*>)?)", ps[: ps.find(")")])
+        names = re.findall(r"(\w+): ([^,)]+(?:<[^>]*>)?)", ps[: ps.find(")\n") if ")\n" in ps else ps.find(")")])
         for i, a in enumerate(names):
             for b in names[i + 1:]:
                 params[(f.split("/")[0],) + tuple(sorted([f"{a[0]}: {a[1]}", f"{b[0]}: {b[1]}"]))].add(n)
