@@ -1,6 +1,6 @@
 -- Fields laid out one after another. Assumes nothing.
-use Rattle.std.proofs.Common.{◌≡◌, ℕ, zero, suc, ◌+◌, ◌*◌, ◌<◌, ◌≤◌, List, [], ◌∷◌, ◌++◌, length, get_or, take, Some, None, Option, sym, refl, ap, ◌∙◌, arith}
-use Rattle.std.specs.List.{flat_map, slice_get}
+use Rattle.std.proofs.Common.{◌≡◌, ℕ, ◌+◌, ◌*◌, ◌<◌, ◌≤◌, List, [], ◌∷◌, ◌++◌, length, get_or, take, Some, None, Option, sym, refl, ap, ◌∙◌, arith}
+use Rattle.std.specs.List.{flat_map}
 use Rattle.job.specs.declared.job.Job.{Job}
 use Rattle.job.specs.Jobs.{contents}
 use Rattle.layout.specs.Layout.{flow_bytes, pair_bytes, reserve_bytes}
@@ -17,12 +17,6 @@ laid_more f xs i d start so_far after h inv put =
 pub room_for : {X : Type 0} (f : X → List ℕ) (xs : List X) (i : ℕ) (d : X) (start so_far : List ℕ) (n : ℕ) → i < length xs →
     so_far ≡ start ++ flat_map f (take i xs) → length start + length (flat_map f xs) ≤ n → length so_far + length (f (get_or xs i d)) ≤ n
 room_for f xs i d start so_far n h inv room = omega (arith, length-flat_map-take f xs i d h, ap length inv, length-append start (flat_map f (take i xs)))
-
--- each place below the length has its entry; the planner cites it
-pub entry_at : {X : Type 0} (xs : List X) (i : ℕ) → i < length xs → (x : X) × (slice_get xs i ≡ Some x)
-entry_at [] i h = absurd (omega arith)
-entry_at (y ∷ xs) zero h = (y, refl)
-entry_at (y ∷ xs) (suc i) h = entry_at xs i (omega arith)
 
 -- bytes put last make a list longer by as many
 pub longer : (a b c : List ℕ) → a ≡ b ++ c → length a ≡ length b + length c

@@ -1,18 +1,16 @@
 -- Tables of the flows that each flow must precede: how they grow, and what they hold back. Assumes nothing.
-use Rattle.std.proofs.Common.{◌≡◌, ℕ, zero, suc, ◌+◌, ◌-◌, ◌<◌, ◌≤◌, Bool, true, false, cond, not, ◌||◌, eqb, List, [], ◌∷◌, ◌++◌, map, length, get_or, set, replicate, Ok, Err, sym, refl, ap, ◌∙◌, ap₂, add-zero, arith}
+use Rattle.std.proofs.Common.{◌≡◌, ℕ, zero, suc, ◌+◌, ◌-◌, ◌<◌, ◌≤◌, Bool, true, false, cond, not, ◌||◌, eqb, List, [], ◌∷◌, ◌++◌, map, length, get_or, set, replicate, sym, refl, ap, ◌∙◌, ap₂, add-zero, arith}
 use lib.ListN as ListN
 use Rattle.std.specs.List.{list_any}
 use Rattle.std.proofs.lemmas.Bool.Decides.{nat_tests}
 use Rattle.std.proofs.lemmas.List.{map-set, get_or-map, length-map, append-nil}
-use Rattle.std.proofs.lemmas.Bool.{cond-true, cond-false, eq-eqb, ne_eqb, and_from, not_from_false, lt-ltb, le-ltb}
+use Rattle.std.proofs.lemmas.Bool.{cond-true, cond-false, eq-eqb, ne_eqb}
 use Rattle.rule.specs.declared.flow_set.FlowSet.{FlowSet}
-use Rattle.rule.specs.Lists.{is_flow, marks, marks_from, has}
+use Rattle.rule.specs.Lists.{marks, marks_from, has}
 use Rattle.rule.specs.FlowSets.{marks_of, put, both, empty}
 use Rattle.rule.proofs.Members.{marks_push, marks_cons, marks_length}
 use Rattle.precedence.specs.declared.pair.Pair.{Pair}
-use Rattle.precedence.specs.Pairs.{laters, later_sets, two_flows, add_reply}
-use Rattle.precedence.specs.Held.{after_add}
-use Rattle.chip.specs.declared.refusal.Refusal.TheVariants.{TooManyPairs}
+use Rattle.precedence.specs.Pairs.{laters, later_sets}
 
 -- without a pair no flow precedes another
 pub later_sets_none : (k i : ℕ) (x : FlowSet) → marks_of x ≡ marks [] → map marks_of (replicate k x) ≡ later_sets k i []
@@ -126,14 +124,3 @@ meets (g ∷ gs) set e =
     ap (λ (x : List Bool). not (empty (both x set))) (marks_cons g gs)
     ∙ meets_one (marks gs) set g (marks_length gs ∙ sym e)
     ∙ ap (λ (b : Bool). has set g || b) (meets gs set e)
-
--- a pair of two flows, offered to pairs that have room for it or not
-module _ (n : ℕ) (p : Pair) (first : is_flow n p.first ≡ true) (later : is_flow n p.later ≡ true) (apart : p.first ≡ p.later → ⊥) (ps : List Pair) where
-  two : two_flows n p ≡ true
-  two = and_from _ _ (and_from _ _ first later) (not_from_false _ (ne_eqb p.first p.later apart))
-
-  pub add_taken : length ps < 16 → (Ok tt ≡ add_reply n ps p) × (ps ++ p ∷ [] ≡ after_add n ps p)
-  add_taken h = rw (two, lt-ltb (length ps) 16 h) (refl, refl)
-
-  pub add_full : 16 ≤ length ps → (Err TooManyPairs ≡ add_reply n ps p) × (ps ≡ after_add n ps p)
-  add_full h = rw (two, le-ltb (length ps) 16 h) (refl, refl)

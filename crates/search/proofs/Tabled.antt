@@ -81,11 +81,6 @@ module _ (w : Walk) where
         (back_moving w.count w.sure (untried_of w) (take w.flows w.placed) (masks w) (spent_empty e) w.level
         (let a = w.ranged in let t = taken_length in omega arith) (let a = w.ranged in let t = masks_length in omega arith))
 
-    -- backing up from the lowest level
-    pub end_stands : w.level ≡ w.flows → nothing w.count ≡ moving w
-    end_stands l =
-        sym (end_moving w.count w.sure (untried_of w) (take w.flows w.placed) (masks w) (spent_empty e) w.level (let t = taken_length in omega arith))
-
 -- an open walk has not ended with an order
 pub order_open : (bounds : List ℕ) → ◌≡◌ {A = Stage} Open (Order bounds) → ⊥
 order_open bounds e = let z : ◌≡◌ {A = ℕ} 0 1 = cc in omega arith

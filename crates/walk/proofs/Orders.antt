@@ -7,11 +7,11 @@
 --   split, last     a list at one of its members, and at its end
 use Rattle.std.proofs.Common.{◌≡◌, ℕ, suc, ◌+◌, ◌≤◌, Bool, true, false, cond, not, ◌&&◌, ◌||◌, eqb, ltb, List, [], ◌∷◌, ◌++◌, length, get_or, sym, refl, ap, ◌∙◌, ⊎_elim, arith}
 use Rattle.std.proofs.lemmas.Bool.Decides.{nat_tests}
-use Rattle.std.proofs.lemmas.Bool.{both_ways, cases_eq, cases_Bool, eqb-true, eq-eqb, ne_eqb}
+use Rattle.std.proofs.lemmas.Bool.{both_ways, cases_eq, cases_Bool, eqb-true}
 use Rattle.rule.specs.Lists.{is_flow, among, times, distinct, Order, marks, has}
 use Rattle.rule.specs.FlowSets.{put, first_flows}
 use Rattle.rule.proofs.Members.{among_times, times_append, marks_length, has_marks}
-use Rattle.rule.proofs.Distinct.{distinct_times, times_distinct, distinct_size, flow_range, among_flow, has_distinct, among_push}
+use Rattle.rule.proofs.Distinct.{distinct_times, times_distinct, distinct_size, flow_range, among_flow, has_distinct}
 use Rattle.walk.specs.Walk.{unplaced}
 use Rattle.walk.proofs.Sets.{has_put_same, has_put_other, put_length, has_less, less_length, has_first, first_length, same_set, size_below, size_above}
 
@@ -36,31 +36,6 @@ unplaced_none n =
     all : (b : Bool) → (b && true) ≡ b
     all true = refl
     all false = refl
-
-pub unplaced_push : (n : ℕ) (ps : List ℕ) (p : ℕ) → put (unplaced n ps) p false ≡ unplaced n (ps ++ p ∷ [])
-unfolding unplaced
-unplaced_push n ps p =
-    same_set (put (unplaced n ps) p false) (unplaced n (ps ++ p ∷ [])) (put_length (unplaced n ps) p false ∙ unplaced_length n ps) (unplaced_length n (ps ++ p ∷ []))
-    (λ g h l. ⊎_elim (same g h l) (other g h l) (cases_eq g p) ∙ sym (has_less (first_flows n) (marks (ps ++ p ∷ [])) g ∙ ap (λ (b : Bool). has (first_flows n) g && not b) (has_marks g (ps ++ p ∷ []) h l ∙ among_push g p ps)))
-  where
-    same : (g : ℕ) → 1 ≤ g → g ≤ 20 → g ≡ p → has (put (unplaced n ps) p false) g ≡ (has (first_flows n) g && not (among g ps || eqb g p))
-    same g h l e =
-        let k = unplaced_length n ps in
-        rw (← e) (has_put_same (unplaced n ps) g false h (omega arith) ∙ gone (has (first_flows n) g) (among g ps) (eqb g g) (eq-eqb g g refl))
-      where
-        gone : (a b c : Bool) → c ≡ true → false ≡ (a && not (b || c))
-        gone true true c q = refl
-        gone false b c q = refl
-        gone true false c q = rw q refl
-
-    other : (g : ℕ) → 1 ≤ g → g ≤ 20 → (g ≡ p → ⊥) → has (put (unplaced n ps) p false) g ≡ (has (first_flows n) g && not (among g ps || eqb g p))
-    other g h l ne =
-        has_put_other (unplaced n ps) p g false ne ∙ has_less (first_flows n) (marks ps) g
-        ∙ ap (λ (b : Bool). has (first_flows n) g && not b) (has_marks g ps h l ∙ kept (among g ps) (eqb g p) (ne_eqb g p ne))
-      where
-        kept : (b c : Bool) → c ≡ false → b ≡ (b || c)
-        kept true c q = refl
-        kept false c q = sym q
 
 -- a list with a flow among its members
 pub split : (g : ℕ) (xs : List ℕ) → among g xs ≡ true → (front : List ℕ) × (back : List ℕ) × (xs ≡ front ++ g ∷ back)
