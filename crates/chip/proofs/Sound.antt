@@ -15,6 +15,9 @@ from_mesh f = let h = f.sound in grind (arith, nat_tests)
 pub to_mesh : (f : Flow) → on_mesh f.parameters.destination ≡ true
 to_mesh f = let h = f.sound in grind (arith, nat_tests)
 
+pub flow_placed : (f : Flow) → (f.parameters.source.column < 6) × (f.parameters.source.row < 6) × (f.parameters.destination.column < 6) × (f.parameters.destination.row < 6)
+flow_placed f = let h = f.sound in grind (arith, nat_tests)
+
 -- they differ
 pub flow_apart : (f : Flow) → f.parameters.source.column ≡ f.parameters.destination.column → f.parameters.source.row ≢ f.parameters.destination.row
 flow_apart f same row = let h = f.sound in absurd (grind (arith, nat_tests))

@@ -6,6 +6,7 @@ pub mod Asked
 pub mod Linked
 pub mod Pass
 pub mod Jitters
+pub mod Filling
 pub mod Sharers
 pub mod Sums
 pub mod Loads

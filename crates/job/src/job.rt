@@ -8,6 +8,7 @@ use sheet::{Letter, Pair, Sheet};
 use table::Table;
 
 mod changes;
+pub mod equality;
 mod questions;
 
 // Each pair names two flows of the sheet. No model: the promise of reading ranges over every job, and over bare

@@ -4,7 +4,7 @@
 
 ghost use Rattle.std.specs.Prelude.{◌+◌, ◌<◌, ◌^◌, length};
 
-use chip::{Flow, Route};
+use chip::{Flow, MAX_FLOWS, Route};
 use job::Job;
 use planner::JobRule;
 use rule::Rule;
@@ -26,25 +26,36 @@ fn print_flow(rt: &HostRuntime, number: usize, flow: Flow) -> io::Result<()> {
 }
 
 // The flows after flow `number` that share a link with it, a line each.
-fn print_sharers(rt: &HostRuntime, number: usize, flow: Flow, after: &[Flow]) -> io::Result<()>
+fn print_sharers(rt: &HostRuntime, number: usize, route: &Route, after: &[Route]) -> io::Result<()>
     requires { number + length after.now < 2 ^ 64 }
 {
-    let route = Route::of(flow);
     for (i, later) in after.iter().enumerate() {
-        if route.shares(&Route::of(*later)) {
+        if route.shares(later) {
             println!(rt; "flows {number} and {} share a link", number + i + 1)?;
         }
     }
     Ok(())
 }
 
-// A line for each two flows that share a link.
-fn print_sharing(rt: &HostRuntime, sheet: &Sheet) -> io::Result<()> {
-    let flows = sheet.flows();
-    for (i, flow) in flows.iter().enumerate() {
-        print_sharers(rt, i + 1, *flow, &flows[i + 1..])?;
+// A line for each two flows, of those with these routes, that share a link.
+fn print_pairs(rt: &HostRuntime, routes: &[Route]) -> io::Result<()> {
+    for (i, route) in routes.iter().enumerate() {
+        print_sharers(rt, i + 1, route, &routes[i + 1..])?;
     }
     Ok(())
+}
+
+// A line for each two flows that share a link. Each route is made once; past the last flow that of the first stands.
+fn print_sharing(rt: &HostRuntime, sheet: &Sheet) -> io::Result<()> {
+    let flows = sheet.flows();
+    let Some(first) = flows.first() else {
+        return Ok(());
+    };
+    let mut routes = [Route::of(*first); MAX_FLOWS];
+    for (route, flow) in routes.iter_mut().zip(flows) {
+        *route = Route::of(*flow);
+    }
+    print_pairs(rt, &routes[..flows.len().min(MAX_FLOWS)])
 }
 
 fn print_wishes(rt: &HostRuntime, job: &Job) -> io::Result<()> {

@@ -3,4 +3,4 @@ mod Delayed
 mod Settles
 mod Promised
 mod Sums
-mod Mapped
+pub mod Mapped

@@ -23,7 +23,8 @@ pub struct ChipRule<A> {
 impl<A: Analysis> ChipRule<A> {
     // The rule on the flows of a sheet, which it uses up.
     pub fn new(sheet: Sheet) -> ChipRule<A>
-        ensures { chip result.traffic ≡ flows_of sheet }
+        ensures flows { chip result.traffic ≡ flows_of sheet }
+        ensures means { meaning_of A.bound A.floor A.ceiling (chip result.traffic) ≡ meaning_of A.bound A.floor A.ceiling (flows_of sheet) }
     {
         ChipRule {
             traffic: Traffic::of(&sheet),

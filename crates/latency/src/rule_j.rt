@@ -1,9 +1,10 @@
 // Rule J: a flow is delayed by the direct flows above it, each with the interference jitter that its own bound gives.
 ghost use Rattle.std.specs.Prelude.{◌≡◌, ◌≤◌};
 ghost use Rattle.rule.specs.FlowSets.{marks_of, members};
+ghost use Rattle.rule.specs.Questions.{asked_bound};
 ghost use Rattle.latency.specs.Chips.{chip, HasFlow, HasFlows};
 ghost use Rattle.interference.specs.Promises.{ToldJ};
-ghost use Rattle.interference.specs.Rules.{bound_D, bound_J, ceiling_extra, ceiling_J};
+ghost use Rattle.interference.specs.Rules.{bound_D, bound_J, ceiling_extra, ceiling_J, meaning_J};
 ghost use Rattle.interference.proofs.LawsOfJ.{lawful_J};
 
 use crate::analysis::Analysis;
@@ -11,7 +12,8 @@ use crate::chip_rule::ChipRule;
 use crate::jitters::jitters;
 use crate::rule_d::Direct;
 use crate::traffic::Traffic;
-use rule::{Bounds, FlowSet};
+use chip::Refusal;
+use rule::{Bounds, FlowSet, Rule};
 
 // Rule J on a chip.
 pub type RuleJ = ChipRule<WithJitter>;
@@ -74,5 +76,15 @@ impl Analysis for WithJitter {
 
     fn bounds(traffic: &Traffic, list: &[u8]) -> Bounds {
         traffic.delayed_bounds(list)
+    }
+}
+
+impl RuleJ {
+    // The bound of flow f under the flows of `above`, highest first: `Rule::bound`'s, in this rule's own words.
+    pub fn bound(&self, f: u8, above: &[u8]) -> Result<Option<u32>, Refusal>
+        ensures asked { result ≡ asked_bound (meaning_J (chip self.now.traffic)) f above.now }
+        ensures told { ToldJ (chip self.now.traffic) f above.now result }
+    {
+        Rule::bound(self, f, above)
     }
 }

@@ -1,14 +1,18 @@
 // Rule L: a flow is delayed by the direct flows above it, and by the indirect ones, which share with a direct one.
 ghost use Rattle.std.specs.Prelude.{◌≡◌, filter};
 ghost use Rattle.rule.specs.FlowSets.{marks_of, members};
+ghost use Rattle.rule.specs.Questions.{asked_bound};
 ghost use Rattle.interference.proofs.LawsOfL.{bound_L_members, lawful_L};
-ghost use Rattle.interference.specs.Rules.{counts_L};
+ghost use Rattle.interference.specs.Interference.{flow};
+ghost use Rattle.interference.specs.Promises.{equation_L, Told};
+ghost use Rattle.interference.specs.Rules.{counts_L, meaning_L};
 ghost use Rattle.latency.specs.Chips.{chip, HasFlow, HasFlows};
 
 use crate::chip_rule::ChipRule;
 use crate::traffic::Traffic;
 use crate::without_jitter::{Interferers, WithoutJitter};
-use rule::FlowSet;
+use chip::Refusal;
+use rule::{FlowSet, Rule};
 
 // Rule L on a chip.
 pub type RuleL = ChipRule<WithoutJitter<Linked>>;
@@ -41,5 +45,15 @@ impl Traffic {
             apart = apart.less(self.near(k));
         }
         set.less(apart)
+    }
+}
+
+impl RuleL {
+    // The bound of flow f under the flows of `above`, highest first: `Rule::bound`'s, in this rule's own words.
+    pub fn bound(&self, f: u8, above: &[u8]) -> Result<Option<u32>, Refusal>
+        ensures asked { result ≡ asked_bound (meaning_L (chip self.now.traffic)) f above.now }
+        ensures told { Told (equation_L (chip self.now.traffic) f above.now) (flow (chip self.now.traffic) f).deadline result }
+    {
+        Rule::bound(self, f, above)
     }
 }

@@ -13,7 +13,7 @@ mod solving;
 
 // A chip of 1 to 20 flows; the set of a flow holds the flows that share with it.
 // Two arrays: one array of both takes 4 to 8 in 100 more instructions, counted as in docs/SPEED.md (three sheets).
-// No `Table` of flows: every place holds one, past the last the first again, and `map` over all makes routes and sets.
+// No `Table` of flows: every place holds one, past the last the first again, as there is no flow to fill a `Table` with.
 // No `impl Model`: its value, a list, would forget that each chip has 1 to 20 flows, which the laws of a rule need.
 #[derive(Clone, Copy)]
 pub struct Traffic {

@@ -1,5 +1,6 @@
 pub mod Bytes
 pub mod Codes
+pub mod Equal
 pub mod Exact
 pub mod Heads
 pub mod Laying

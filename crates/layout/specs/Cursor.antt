@@ -1,6 +1,7 @@
--- Where a reader stands, and what it passes over. Assumes nothing.
+-- Where a reader stands, what it passes over, and what a page is given. Assumes nothing.
 --   Cursor     where it stands
 --   Took       these bytes came next, and the cursor moved past them
+--   Put        these bytes were laid out last
 --   Peeked     this field came next, its head is sound, and the cursor moved past it
 --   Misheaded  no field with a sound head comes next
 use Rattle.std.specs.Prelude.{◌≡◌, ℕ, ◌+◌, ◌≤◌, List, ◌∷◌, ◌++◌, length}
@@ -28,6 +29,11 @@ pub record Took (before after : Cursor) (taken : List ℕ) : Type 0 where
   pub next : before.left ≡ taken ++ after.left
   pub moved : after.at ≡ before.at + length taken
   pub field : after.field ≡ before.field
+
+-- these bytes were put behind those that were laid out, n of them before and m after
+pub record Put (before : List ℕ) (n : ℕ) (after : List ℕ) (m : ℕ) (bytes : List ℕ) : Type 0 where
+  pub laid : after ≡ before ++ bytes
+  pub count : m ≡ n + length bytes
 
 -- a sound head with this tag was passed over, and its value is whole
 pub record Headed (stage : Stage) (before after : Cursor) (tag : Tag) : Type 0 where

@@ -13,7 +13,7 @@ use Rattle.rule.specs.Lists.Struck.{none, kept, out}
 use Rattle.rule.specs.Meaning.{Meaning, PassesUnder, InTime, NoLater, leading}
 use Rattle.rule.proofs.Distinct.{distinct_parts, flow_range, has_distinct, proper_taken}
 use Rattle.rule.proofs.Told.{Telling, Sound, telling_more, telling_ends, telling_all, all_told}
-use Rattle.rule.proofs.Below.{Below, Beside, below_at, below_most, below_stops}
+use Rattle.rule.proofs.Below.{Below, BoundsBelow, Beside, below_at, below_most, below_stops, beside_told, padded}
 use Rattle.precedence.specs.declared.pair.Pair.{Pair}
 use Rattle.precedence.specs.Pairs.{laters, held_back, with_pairs}
 
@@ -105,32 +105,38 @@ module _ (ps : List Pair) (m : Meaning) (l : Lawful m) (f : ℕ) (above : List �
       each (inl n) true p = let k = sym (held_told p) ∙ n in rw (p, k)
       each (inr n) true p = absurd (both_ways (proper m.flows f above) n p)
 
--- the bounds of a list, each from the bound below: number i of the list comes next
-module _ (ps : List Pair) (m : Meaning) (list bounds : List ℕ) (s : Below m list bounds) (i : ℕ) (told : Bounds) (so_far : Telling (with_pairs ps m) list i told) where
+-- the bounds of a list, each from the bound below
+module _ (ps : List Pair) (m : Meaning) (list : List ℕ) (b : Bounds) (s : Below m list b) (i : ℕ) (told : Bounds) (so_far : Telling (with_pairs ps m) list i told) where
   asked_above : Sound (with_pairs ps m) list
   asked_above = record { laws = pairs_lawful ps m s.asked.laws; once = s.asked.once }
 
-  -- the answer for flow f with the bound r below, by the test of the set above it
-  module _ (f r : ℕ) (at : Beside list bounds i f r) (set : List Bool) (e : set ≡ marks (take i list)) (held : Bool) (test : held ≡ (is_flow 20 f && held_back ps f (has set))) where
-    inside : i < length list
-    inside = omega (arith, at.more, (below_most m list bounds s).0)
+  inside : i < b.count → i < length list
+  inside h = omega (arith, (below_most m list b s).0)
 
-    at_flow : (o : Option ℕ) → cond held None (Some r) ≡ o → (with_pairs ps m).bound (slice_index list i) (take i list) ≡ o
+  -- the next flow, by its answer
+  module _ (h : i < b.count) where
+    next_more : (r : ℕ) → (with_pairs ps m).bound (slice_index list i) (take i list) ≡ Some r → Telling (with_pairs ps m) list (i + 1) (one_more told r)
+    next_more r e = telling_more (with_pairs ps m) list i told so_far r (inside h) (omega (arith, (below_most m list b s).1)) e
+
+    next_ends : (with_pairs ps m).bound (slice_index list i) (take i list) ≡ None → Ok told ≡ asked_bounds (with_pairs ps m) list
+    next_ends e = all_told (with_pairs ps m) list asked_above told (telling_ends (with_pairs ps m) list i told so_far (inside h) e)
+
+  -- the answer for the next flow, by the test of the set above it
+  module _ (set : List Bool) (e : set ≡ marks (take i list)) (held : Bool) (test : held ≡ (is_flow 20 (slice_index list i) && held_back ps (slice_index list i) (has set))) (h : i < b.count) where
+    at_flow : (o : Option ℕ) → cond held None (Some (slice_index b.ticks i)) ≡ o → (with_pairs ps m).bound (slice_index list i) (take i list) ≡ o
     at_flow o q =
         ap₂ (λ (x : Bool) (y : Option ℕ). cond x None y)
-        (sym (held_told ps m s.asked.laws (slice_index list i) (take i list) set e held (test ∙ ap (λ (g : ℕ). is_flow 20 g && held_back ps g (has set)) at.flow) (proper_taken m.flows list i inside s.asked.once)))
-        (below_at m list bounds s i f r at)
+        (sym (held_told ps m s.asked.laws (slice_index list i) (take i list) set e held test (proper_taken m.flows list i (inside h) s.asked.once)))
+        (below_at m list b s i h)
         ∙ q
 
-    pub pairs_more : held ≡ false → Telling (with_pairs ps m) list (i + 1) (one_more told r)
-    pairs_more n =
-        telling_more (with_pairs ps m) list i told so_far r inside (omega (arith, at.more, (below_most m list bounds s).1)) (at_flow (Some r) (cond-false held None (Some r) n))
+    pub pairs_more : held ≡ false → Telling (with_pairs ps m) list (i + 1) (one_more told (slice_index b.ticks i))
+    pairs_more n = next_more h (slice_index b.ticks i) (at_flow (Some (slice_index b.ticks i)) (cond-false held None (Some (slice_index b.ticks i)) n))
 
     pub pairs_end : held ≡ true → Ok told ≡ asked_bounds (with_pairs ps m) list
-    pairs_end t =
-        all_told (with_pairs ps m) list asked_above told (telling_ends (with_pairs ps m) list i told so_far inside (at_flow None (cond-true held None (Some r) t)))
+    pairs_end t = next_ends h (at_flow None (cond-true held None (Some (slice_index b.ticks i)) t))
 
-  pub pairs_all : i ≡ length bounds → Ok told ≡ asked_bounds (with_pairs ps m) list
+  pub pairs_all : i ≡ b.count → Ok told ≡ asked_bounds (with_pairs ps m) list
   pairs_all e = all_told (with_pairs ps m) list asked_above told (⊎_elim ends all (cases_lt i (length list)))
     where
       nothing : (x : Bool) → cond {A = Option ℕ} x None None ≡ None
@@ -140,7 +146,27 @@ module _ (ps : List Pair) (m : Meaning) (list bounds : List ℕ) (s : Below m li
       ends : i < length list → told ≡ table (leading (with_pairs ps m) [] list)
       ends h =
           telling_ends (with_pairs ps m) list i told so_far h
-          (ap (λ (o : Option ℕ). cond (held_back ps (slice_index list i) (λ g. among g (take i list))) None o) (below_stops m list bounds s i e h) ∙ nothing _)
+          (ap (λ (o : Option ℕ). cond (held_back ps (slice_index list i) (λ g. among g (take i list))) None o) (below_stops m list b s i e h) ∙ nothing _)
 
       all : length list ≤ i → told ≡ table (leading (with_pairs ps m) [] list)
       all h = telling_all (with_pairs ps m) list i told so_far h
+
+-- the same of these bounds without the padding, and of the flow f with the bound r below that a loop over both lists has come to
+module _ (ps : List Pair) (m : Meaning) (list bounds : List ℕ) (s : BoundsBelow m list bounds) (i : ℕ) (told : Bounds) (so_far : Telling (with_pairs ps m) list i told) where
+  module _ (f r : ℕ) (at : Beside list bounds i f r) (set : List Bool) (e : set ≡ marks (take i list)) (held : Bool) (test : held ≡ (is_flow 20 f && held_back ps f (has set))) where
+    pub paired_inside : i < length list
+    paired_inside = inside ps m list (table bounds) (padded list bounds s) i told so_far at.more
+
+    pub paired_flow : (o : Option ℕ) → cond held None (Some r) ≡ o → (with_pairs ps m).bound (slice_index list i) (take i list) ≡ o
+    paired_flow o q =
+        at_flow ps m list (table bounds) (padded list bounds s) i told so_far set e held (test ∙ ap (λ (g : ℕ). is_flow 20 g && held_back ps g (has set)) at.flow) at.more o
+        (ap (λ (x : ℕ). cond held None (Some x)) (sym (beside_told list bounds i f r at)) ∙ q)
+
+    pub paired_more : held ≡ false → Telling (with_pairs ps m) list (i + 1) (one_more told r)
+    paired_more n = next_more ps m list (table bounds) (padded list bounds s) i told so_far at.more r (paired_flow (Some r) (cond-false held None (Some r) n))
+
+    pub paired_end : held ≡ true → Ok told ≡ asked_bounds (with_pairs ps m) list
+    paired_end t = next_ends ps m list (table bounds) (padded list bounds s) i told so_far at.more (paired_flow None (cond-true held None (Some r) t))
+
+  pub paired_all : i ≡ length bounds → Ok told ≡ asked_bounds (with_pairs ps m) list
+  paired_all e = pairs_all ps m list (table bounds) (padded list bounds s) i told so_far e

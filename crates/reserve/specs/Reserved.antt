@@ -7,9 +7,9 @@ use Rattle.rule.specs.declared.bounds.Bounds.{Bounds}
 use Rattle.rule.specs.Laws.{Lawful}
 use Rattle.rule.specs.Lists.{is_flow}
 use Rattle.rule.specs.Meaning.{Meaning, answer, PassesUnder, InTime, NoLater, leading}
-use Rattle.rule.specs.Questions.{table, one_more, asked_bounds}
+use Rattle.rule.specs.Questions.{table, one_more, asked_bounds, asked_deadline}
 use Rattle.rule.proofs.Told.{Telling, Sound, telling_more, telling_ends, telling_all, all_told, replied}
-use Rattle.rule.proofs.Below.{Below, Beside, flow_at, below_at, below_most, below_stops}
+use Rattle.rule.proofs.Below.{Below, BoundsBelow, Beside, answered, below_at, below_most, below_stops, bounds_flow, bounds_at, bounds_most, padded}
 use Rattle.reserve.specs.Reserves.{reserved, with_reserve}
 
 module _ (t d : ℕ) where
@@ -62,34 +62,60 @@ reserve_lawful t m l =
       ceiled = λ f above s p k e. reserved_later t (m.deadline f) (m.ceiling f _) (m.bound f above) s e (λ r q. l.ceiled f above r p (passes_below t m [] above k) q);
     }
 
--- the bounds of a list, each from the bound below: number i of the list comes next
-module _ (t : ℕ) (m : Meaning) (list bounds : List ℕ) (s : Below m list bounds) (i : ℕ) where
+-- the bounds of a list, each from the bound below
+module _ (t : ℕ) (m : Meaning) (list : List ℕ) (b : Bounds) (s : Below m list b) (i : ℕ) (told : Bounds) (so_far : Telling (with_reserve t m) list i told) where
+  asked_above : Sound (with_reserve t m) list
+  asked_above = record { laws = reserve_lawful t m s.asked.laws; once = s.asked.once }
+
+  inside : i < b.count → i < length list
+  inside h = omega (arith, (below_most m list b s).0)
+
+  -- the next flow, by its answer
+  module _ (h : i < b.count) where
+    next_more : (r : ℕ) → (with_reserve t m).bound (slice_index list i) (take i list) ≡ Some r → Telling (with_reserve t m) list (i + 1) (one_more told r)
+    next_more r e = telling_more (with_reserve t m) list i told so_far r (inside h) (omega (arith, (below_most m list b s).1)) e
+
+    next_ends : (with_reserve t m).bound (slice_index list i) (take i list) ≡ None → Ok told ≡ asked_bounds (with_reserve t m) list
+    next_ends e = all_told (with_reserve t m) list asked_above told (telling_ends (with_reserve t m) list i told so_far (inside h) e)
+
+  -- the answer for the next flow, by its deadline d
+  module _ (d : ℕ) (by-d : ◌≡◌ {A = Result ℕ Refusal} (Ok d) (asked_deadline m (slice_index list i))) (h : i < b.count) where
+    at_flow : (o : Option ℕ) → reserved t d (Some (slice_index b.ticks i)) ≡ o → (with_reserve t m).bound (slice_index list i) (take i list) ≡ o
+    at_flow o e =
+        let same = (answered (is_flow m.flows (slice_index list i)) (m.deadline (slice_index list i)) d by-d).1 in
+        ap (reserved t (m.deadline (slice_index list i))) (below_at m list b s i h)
+        ∙ ap (λ (x : ℕ). reserved t x (Some (slice_index b.ticks i))) (sym same) ∙ e
+
+    pub reserve_more : (r : ℕ) → reserved t d (Some (slice_index b.ticks i)) ≡ Some r → Telling (with_reserve t m) list (i + 1) (one_more told r)
+    reserve_more r e = next_more h r (at_flow (Some r) e)
+
+    pub reserve_ends : reserved t d (Some (slice_index b.ticks i)) ≡ None → Ok told ≡ asked_bounds (with_reserve t m) list
+    reserve_ends e = next_ends h (at_flow None e)
+
+  pub reserve_all : i ≡ b.count → Ok told ≡ asked_bounds (with_reserve t m) list
+  reserve_all e = all_told (with_reserve t m) list asked_above told (⊎_elim ends all (cases_lt i (length list)))
+    where
+      ends : i < length list → told ≡ table (leading (with_reserve t m) [] list)
+      ends h = telling_ends (with_reserve t m) list i told so_far h (ap (reserved t (m.deadline (slice_index list i))) (below_stops m list b s i e h))
+
+      all : length list ≤ i → told ≡ table (leading (with_reserve t m) [] list)
+      all h = telling_all (with_reserve t m) list i told so_far h
+
+-- the same of these bounds without the padding, and of a flow that a loop over both lists has come to
+module _ (t : ℕ) (m : Meaning) (list bounds : List ℕ) (s : BoundsBelow m list bounds) (i : ℕ) where
   -- the answer for a flow with a bound below is no refusal
   pub raised : (f r : ℕ) → Beside list bounds i f r → (o : Result (Option ℕ) Refusal) → o ≡ answer (is_flow m.flows f) (reserved t (m.deadline f) (Some r)) → o ≡ Ok ((with_reserve t m).bound (slice_index list i) (take i list))
   raised f r at o e =
-      let inside : i < length list = omega (arith, at.more, (below_most m list bounds s).0) in
-      e ∙ replied (is_flow m.flows f) (reserved t (m.deadline f) (Some r)) (ap (is_flow m.flows) at.flow ∙ flow_at m list bounds s i inside)
-      ∙ ap₂ (λ (d : ℕ) (b : Option ℕ). Ok (reserved t d b)) (ap m.deadline at.flow) (sym (below_at m list bounds s i f r at))
+      let inside : i < length list = omega (arith, at.more, (bounds_most m list bounds s).0) in
+      e ∙ replied (is_flow m.flows f) (reserved t (m.deadline f) (Some r)) (ap (is_flow m.flows) at.flow ∙ bounds_flow m list bounds s i inside)
+      ∙ ap₂ (λ (d : ℕ) (b : Option ℕ). Ok (reserved t d b)) (ap m.deadline at.flow) (sym (bounds_at m list bounds s i f r at))
 
   module _ (told : Bounds) (so_far : Telling (with_reserve t m) list i told) where
-    asked_above : Sound (with_reserve t m) list
-    asked_above = record { laws = reserve_lawful t m s.asked.laws; once = s.asked.once }
+    pub raised_more : i < length bounds → (u : ℕ) → (with_reserve t m).bound (slice_index list i) (take i list) ≡ Some u → Telling (with_reserve t m) list (i + 1) (one_more told u)
+    raised_more h u e = next_more t m list (table bounds) (padded list bounds s) i told so_far h u e
 
-    pub reserve_more : i < length bounds → (u : ℕ) → (with_reserve t m).bound (slice_index list i) (take i list) ≡ Some u → Telling (with_reserve t m) list (i + 1) (one_more told u)
-    reserve_more h u e =
-        let b = below_most m list bounds s in
-        telling_more (with_reserve t m) list i told so_far u (omega arith) (omega arith) e
+    pub raised_ends : i < length bounds → (with_reserve t m).bound (slice_index list i) (take i list) ≡ None → Ok told ≡ asked_bounds (with_reserve t m) list
+    raised_ends h e = next_ends t m list (table bounds) (padded list bounds s) i told so_far h e
 
-    pub reserve_ends : i < length bounds → (with_reserve t m).bound (slice_index list i) (take i list) ≡ None → Ok told ≡ asked_bounds (with_reserve t m) list
-    reserve_ends h e =
-        let b = below_most m list bounds s in
-        all_told (with_reserve t m) list asked_above told (telling_ends (with_reserve t m) list i told so_far (omega arith) e)
-
-    pub reserve_all : i ≡ length bounds → Ok told ≡ asked_bounds (with_reserve t m) list
-    reserve_all e = all_told (with_reserve t m) list asked_above told (⊎_elim ends all (cases_lt i (length list)))
-      where
-        ends : i < length list → told ≡ table (leading (with_reserve t m) [] list)
-        ends h = telling_ends (with_reserve t m) list i told so_far h (ap (reserved t (m.deadline (slice_index list i))) (below_stops m list bounds s i e h))
-
-        all : length list ≤ i → told ≡ table (leading (with_reserve t m) [] list)
-        all h = telling_all (with_reserve t m) list i told so_far h
+    pub raised_all : i ≡ length bounds → Ok told ≡ asked_bounds (with_reserve t m) list
+    raised_all e = reserve_all t m list (table bounds) (padded list bounds s) i told so_far e

@@ -9,7 +9,7 @@ use Rattle.std.proofs.iter.Yields.{fronts}
 use Rattle.std.proofs.lemmas.Iterator.{zips}
 use Rattle.std.proofs.lemmas.Slice.Zip.{zip_turn, zip_end}
 use Rattle.rule.specs.Meaning.{Meaning}
-use Rattle.rule.proofs.Below.{Below, Beside, below_most}
+use Rattle.rule.proofs.Below.{BoundsBelow, Beside, bounds_most}
 
 module _ (list bounds : List ℕ) (xs : List (Bor ℕ × Bor ℕ)) (start now next : Zip (Iter ℕ) (Iter ℕ)) (r : Option (Bor ℕ × Bor ℕ)) (flows : iter_rest (zip_first start) ≡ list) (told : iter_rest (zip_second start) ≡ bounds) (y : Yields (zips fronts fronts) start xs now) (step : zips fronts fronts now r next) where
   pub beside : (p : Bor ℕ × Bor ℕ) → r ≡ Some p → Beside list bounds (length xs) p.0.now p.1.now
@@ -17,8 +17,8 @@ module _ (list bounds : List ℕ) (xs : List (Bor ℕ × Bor ℕ)) (start now ne
       let t = zip_turn list bounds xs start now next r flows told y p e step in
       record { more = t.1; flow = t.2 0; bound = t.3 0 }
 
-  pub beside_end : (m : Meaning) → Below m list bounds → r ≡ None → length xs ≡ length bounds
+  pub beside_end : (m : Meaning) → BoundsBelow m list bounds → r ≡ None → length xs ≡ length bounds
   beside_end m s e =
       let t = zip_end list bounds xs start now next r flows told y e step in
-      let l = below_most m list bounds s in
+      let l = bounds_most m list bounds s in
       omega arith

@@ -82,9 +82,10 @@ module _ (m : Meaning) (list : List ℕ) (s : Sound m list) where
   list_short = distinct_short m.flows list s.laws.few_flows s.once
 
   -- the bound of its flow i under those before it
-  pub bound_told : (i : ℕ) (r : Result (Option ℕ) Refusal) → i < length list → r ≡ asked_bound m (get_or list i 0) (take i list) → r ≡ Ok (m.bound (get_or list i 0) (take i list))
-  bound_told i r h q =
-      q ∙ replied (proper m.flows (get_or list i 0) (take i list)) (m.bound (get_or list i 0) (take i list)) (proper_taken m.flows list i h s.once)
+  pub bound_told : (i : ℕ) (above : List ℕ) (r : Result (Option ℕ) Refusal) → i < length list → above ≡ take i list → r ≡ asked_bound m (get_or list i 0) above → r ≡ Ok (m.bound (get_or list i 0) (take i list))
+  bound_told i above r h e q =
+      q ∙ ap (asked_bound m (get_or list i 0)) e
+      ∙ replied (proper m.flows (get_or list i 0) (take i list)) (m.bound (get_or list i 0) (take i list)) (proper_taken m.flows list i h s.once)
 
   -- the table of all its leading bounds
   pub all_told : (told : Bounds) → told ≡ table (leading m [] list) → Ok told ≡ asked_bounds m list

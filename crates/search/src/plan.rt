@@ -70,6 +70,10 @@ pub(crate) fn write_order<R: Rule>(
     ensures reply { result ≡ fit_reply (levels_told (R.Rule.meaning rule.now) order.now bounds.now (length order.now) ++ tail_bytes count) (length buffer.old) }
     ensures after { buffer.new ≡ fit_after (levels_told (R.Rule.meaning rule.now) order.now bounds.now (length order.now) ++ tail_bytes count) buffer.old }
 {
+    // A buffer that is too short is refused before the rule is asked for a label.
+    if buffer.len() < LEVEL_BYTES * order.len() + TAIL_BYTES {
+        return Err(Refusal::ShortBuffer);
+    }
     let mut plan = levels(rule, order, bounds);
     plan.extend(&tail_fields(count)).unwrap();
     copied(&plan, buffer)

@@ -1,4 +1,5 @@
 -- What `==` computes of letters and pairs decides equality, and of sheets whether they hold the same. Assumes nothing.
+use Rattle.std.specs.Bool.{one_answer}
 use Rattle.std.proofs.Common.{◌≡◌, Decides, rules}
 use Rattle.sheet.specs.declared.letter.Letter.{Letter}
 use Rattle.sheet.specs.declared.pair.Pair.{Pair}
@@ -19,6 +20,10 @@ pair_decides a b = search rules
 -- so does the test that is written down
 pub pair_eq_decides : (a b : Pair) → Decides (pair_eq a b) (a ≡ b)
 pair_eq_decides a b = search rules
+
+-- and it is what `==` computes
+pub pair_computes : (a b : Pair) → (pair.ghosts).eq a b ≡ pair_eq a b
+pair_computes a b = one_answer _ _ (pair_decides a b) (pair_eq_decides a b)
 
 pub sheet_decides : (a b : Sheet) → Decides ((sheet.ghosts).eq a b) (flows_of a ≡ flows_of b)
 sheet_decides a b = flows_decide a.flows.items b.flows.items

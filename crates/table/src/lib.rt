@@ -1,9 +1,10 @@
 // A list of at most N items that lie in the value itself: the library has no heap.
 #![tactic(auto)]
 
-ghost use Rattle.std.specs.Prelude.{◌≡◌, ◌+◌, ◌<◌, ◌≤◌, ◌↔◌, [], ◌∷◌, ◌++◌, length, take, slice_get, IsOk, IfOk, OnOk, OnErr, drop};
+ghost use Rattle.std.specs.Prelude.{◌≡◌, ◌+◌, ◌<◌, ◌≤◌, ◌↔◌, [], ◌∷◌, ◌++◌, length, take, replicate, slice_get, slice_set, IsOk, IfOk, OnOk, OnErr, drop};
 ghost use Rattle.std.specs.Cmp.{on_per, on_equiv};
 ghost use Rattle.std.specs.Cmp.Lexicographic.{pointwise, lists_per, lists_equiv};
+ghost use Rattle.table.specs.Listed.{cells};
 
 use std::marker::Model;
 
@@ -69,9 +70,10 @@ impl<T: Copy, const N: usize> Table<T, N> {
         }
     }
 
-    // The list of one item, if it has room for any.
+    // The list of one item, if it has room for any; the item fills the other cells, too.
     pub fn of(item: T) -> Table<T, N>
-        ensures { result.items ≡ take N (item ∷ []) }
+        ensures items { result.items ≡ take N (item ∷ []) }
+        ensures cells { cells result ≡ replicate N item }
     {
         Table {
             cells: [item; N],
@@ -86,10 +88,12 @@ impl<T: Copy, const N: usize> Table<T, N> {
         self.as_slice().get(place).copied()
     }
 
-    // Puts one more item last; refuses it, and changes nothing, where there is no room.
+    // Puts one more item last, into the first cell past the others; refuses it, and changes nothing, where there is no
+    // room.
     pub fn push(&mut self, item: T) -> Result<(), Full>
         ensures reply { IsOk result ↔ (length self.old.items < N) }
         ensures ok { OnOk result (self.new.items ≡ self.old.items ++ item ∷ []) }
+        ensures cells { OnOk result (cells self.new ≡ slice_set (cells self.old) (length self.old.items) item) }
         ensures err { OnErr result (self.new ≡ self.old) }
     {
         if self.len >= N {

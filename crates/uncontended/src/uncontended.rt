@@ -1,10 +1,11 @@
 // The rule: every bound, floor and ceiling is the basic latency, if that is no later than the deadline.
-ghost use Rattle.std.specs.Prelude.{◌≡◌, ◌≤◌, true, if◌then◌else◌, [], ◌∷◌, ◌++◌, length, Ok, Err, nat_lt};
+ghost use Rattle.std.specs.Prelude.{◌≡◌, ◌≤◌, true, replicate, if◌then◌else◌, [], ◌∷◌, ◌++◌, length, Ok, Err, OnErr, nat_lt, slice_set};
 ghost use Rattle.chip.specs.declared.refusal.Refusal.TheVariants.{TooManyFlows};
 ghost use Rattle.rule.specs.Lists.{is_flow};
 ghost use Rattle.rule.specs.Meaning.{answer};
 ghost use Rattle.uncontended.specs.Uncontended.{flow_at, in_time, uncontended};
 ghost use Rattle.uncontended.specs.Laws;
+ghost use Rattle.table.specs.Listed.{cells};
 
 use crate::flow::Flow;
 use chip::{MAX_FLOWS, Refusal};
@@ -22,9 +23,10 @@ pub struct Uncontended {
 }
 
 impl Uncontended {
-    // The rule of one flow.
+    // The rule of one flow, which fills the other places of the table, too.
     pub fn new(first: Flow) -> Uncontended
-        ensures { result.flows.items ≡ first ∷ [] }
+        ensures flows { result.flows.items ≡ first ∷ [] }
+        ensures table { cells result.flows ≡ replicate 20 first }
     {
         Uncontended {
             flows: Table::of(first),
@@ -35,6 +37,8 @@ impl Uncontended {
     pub fn add(&mut self, flow: Flow) -> Result<(), Refusal>
         ensures reply { result ≡ (if nat_lt (length self.old.flows.items) 20 then Ok tt else Err TooManyFlows) }
         ensures flows { self.new.flows.items ≡ (if nat_lt (length self.old.flows.items) 20 then self.old.flows.items ++ flow ∷ [] else self.old.flows.items) }
+        ensures err { OnErr result (self.new ≡ self.old) }
+        ensures table { cells self.new.flows ≡ (if nat_lt (length self.old.flows.items) 20 then slice_set (cells self.old.flows) (length self.old.flows.items) flow else cells self.old.flows) }
     {
         self.flows.push(flow).map_err(|_| Refusal::TooManyFlows)
     }

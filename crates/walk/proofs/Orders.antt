@@ -2,7 +2,7 @@
 --   distinct_fits   a list without repeats is no longer than there are flows
 --   full_order      one as long as there are flows is an order; order_length the other way
 --   has_unplaced    the unplaced flows are those that stand nowhere in the list
---   unplaced_none, -push   no flow placed, and one more
+--   unplaced_none   no flow placed
 --   set_above       the flows above one of an order are the unplaced ones but for it
 --   split, last     a list at one of its members, and at its end
 use Rattle.std.proofs.Common.{◌≡◌, ℕ, suc, ◌+◌, ◌≤◌, Bool, true, false, cond, not, ◌&&◌, ◌||◌, eqb, ltb, List, [], ◌∷◌, ◌++◌, length, get_or, sym, refl, ap, ◌∙◌, ⊎_elim, arith}

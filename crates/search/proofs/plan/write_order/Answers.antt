@@ -1,8 +1,13 @@
 -- Why there is room for what follows the levels, and what is written. Assumes nothing.
 use Rattle.std.proofs.Common.{◌≡◌, ℕ, List, ◌++◌, length, ap, ◌∙◌, subst, OnOk, arith}
 use Rattle.search.specs.Plans.{fit_after, levels_told}
-use Rattle.search.proofs.Planned.{levels_length}
+use Rattle.search.proofs.Planned.{levels_length, order_short}
 use Rattle.search.proofs.plan.write_order.Goals as goal
+
+pub returns-then-buffer-order : goal.returns-then-buffer-order
+returns-then-buffer-order g c =
+    let p = order_short (g.R.Rule.meaning c.args.rule.now) c.args.order.now c.args.bounds.now c.args.count c.args.buffer.now c.if-buffer-order.true in
+    record { reply = p.0; after = p.1 }
 
 pub unwrap-requires : goal.unwrap-requires
 unwrap-requires g c =
